@@ -1,0 +1,1 @@
+// The fields of a line; so far their definitions.

@@ -1,0 +1,246 @@
+-- The monitor's machine (document 01, "The monitor's machine").
+-- Read this to know what step, send, raise and lower answer. Masks are seen through `has` alone.
+-- Believed: everything here. Proved against it: crate monitor.
+use Prim.Native.Nat.{ℕ, zero, suc, _+_, _-_, _^_}
+use mathlib.Core.Bool.{Bool, true, false, not, cond, _&&_, _||_}
+use mathlib.Core.List.{List, [], _∷_, _++_, map}
+use mathlib.Core.Option.{Option, none, some}
+use lib.Dec.{eqb, leb, ltb}
+use lib.ListN.{length, getD}
+use Rattle.lists.specs.Numbers.{every, any, all, tabulate}
+use Rattle.mask.specs.Mask.{has, plus, without}
+use Rattle.plan.specs.declared.Form.{Form}
+use Rattle.plan.specs.declared.Form.the-variants.{End, Go, Either, Both}
+use Rattle.plan.specs.declared.Template.{Template}
+use Rattle.plan.specs.declared.Plan.{Plan}
+use Rattle.plan.specs.Plan.{at, successors, creates}
+use Rattle.rules.specs.Rules.{offends12, offends13, offends16}
+use Rattle.machine.specs.declared.Answer.{Answer}
+use Rattle.machine.specs.declared.Answer.the-variants.{Done, Delivered, Held, Refused}
+
+-- "A process has a serial, a template, a label (a mask) and, for each identifier, a tag."
+pub record Process : Type 0 where
+  pub serial : ℕ
+  pub template : ℕ
+  pub label : ℕ
+  pub tags : List ℕ
+
+unfoldable pub tag : Process → ℕ → ℕ
+tag p i = getD (p .tags) i 0
+
+-- "State: the plan, the next serial, at most 128 processes live, in rising serial."
+pub record Machine : Type 0 where
+  pub plan : Plan
+  pub next : ℕ
+  pub live : List Process
+
+-- How many processes may live, and how great the next serial may be, as tests.
+pub record Limits : Type 0 where
+  pub processes : ℕ → Bool
+  pub serials : ℕ → Bool
+
+abbrev pub boxLimits : Limits
+boxLimits = record { processes = λ n. leb n 128; serials = λ n. leb n 4294967295 }
+
+pub data Call : Type 0 where
+  step : ℕ → ℕ → Call
+  send : ℕ → ℕ → Call
+  raise : ℕ → ℕ → Call
+  lower : ℕ → ℕ → Call
+
+pub record Outcome : Type 0 where
+  pub answer : Answer
+  pub machine : Machine
+
+-- The paper's number of a refusal, and 0 for any other answer.
+unfoldable pub numberOf : Answer → ℕ
+numberOf Done = 0
+numberOf Delivered = 0
+numberOf Held = 0
+numberOf (Refused n) = n
+
+-- Refusals are tried in order: the first test that holds gives its number.
+unfoldable pub refuseIf : Bool → ℕ → Answer → Answer
+refuseIf true number later = Refused number
+refuseIf false number later = later
+
+-- An accepted step, raise or lower changes the machine; every other answer hands back the one it got.
+unfoldable pub ifDone : Answer → Machine → Machine → Machine
+ifDone Done new old = new
+ifDone Delivered new old = old
+ifDone Held new old = old
+ifDone (Refused n) new old = old
+
+-- ---- 20: a bad state
+
+-- "A plan's successor not below N", "a mask [..] of the plan beyond M".
+unfoldable pub templateFits : ℕ → ℕ → Template → Bool
+templateFits N M t =
+    all (λ Y. ltb Y N) (successors (t .form))
+    && (ltb (t .lab) (2 ^ M) && (ltb (t .pos) (2 ^ M) && (ltb (t .neg) (2 ^ M) && ltb (t .creates) (2 ^ M))))
+
+-- "A count [..] passed": 1 to 64 templates, 0 to 32 identifiers.
+unfoldable pub planFits : Plan → Bool
+planFits plan =
+    (ltb 0 (plan .count) && (leb (plan .count) 64 && leb (plan .identifiers) 32))
+    && every (plan .count) (λ X. templateFits (plan .count) (plan .identifiers) (at plan X))
+
+-- "A template [..] not below N", "serials [..] not below the next, a tag not below the next, a mask of a label [..]
+-- beyond M".
+unfoldable pub processFits : Plan → ℕ → Process → Bool
+processFits plan next p =
+    ltb (p .serial) next
+    && (ltb (p .template) (plan .count)
+    && (ltb (p .label) (2 ^ plan .identifiers)
+    && all (λ t. ltb t next) (p .tags)))
+
+-- Each number is below the one after it.
+unfoldable pub rising : List ℕ → Bool
+rising xs = every (length xs - 1) (λ i. ltb (getD xs i 0) (getD xs (i + 1) 0))
+
+-- The processes, beside a plan and a next serial.
+unfoldable pub populationFits : Limits → Plan → ℕ → List Process → Bool
+populationFits limits plan next live =
+    limits .processes (length live) && (rising (map (λ p. p .serial) live) && all (processFits plan next) live)
+
+-- Not 20.
+unfoldable pub wellFormed : Limits → Machine → Bool
+wellFormed limits m =
+    planFits (m .plan) && (limits .serials (m .next) && populationFits limits (m .plan) (m .next) (m .live))
+
+-- ---- the live processes
+
+-- The process with that serial; "21: that serial is not live".
+unfoldable pub find : ℕ → List Process → Option Process
+find s [] = none
+find s (p ∷ rest) = cond (eqb (p .serial) s) (some p) (find s rest)
+
+unfoldable pub remove : ℕ → List Process → List Process
+remove s [] = []
+remove s (p ∷ rest) = cond (eqb (p .serial) s) (remove s rest) (p ∷ remove s rest)
+
+-- ---- step
+
+-- "22: branch is not 0, or for `either` not 0 or 1."
+unfoldable pub branchFits : Form → ℕ → Bool
+branchFits End branch = eqb branch 0
+branchFits (Go Y) branch = eqb branch 0
+branchFits (Either Y Z) branch = leb branch 1
+branchFits (Both Y Z) branch = eqb branch 0
+
+-- "`go` and `either` make one child, `both` two (Y takes the lower serial), `end` none": their templates.
+unfoldable pub children : Form → ℕ → List ℕ
+children End branch = []
+children (Go Y) branch = Y ∷ []
+children (Either Y Z) branch = cond (eqb branch 0) Y Z ∷ []
+children (Both Y Z) branch = Y ∷ Z ∷ []
+
+-- "For some child at Y, the label is not as rules 12, 13, 16 ask, the process's label standing for lab X."
+unfoldable pub mayBecome : Plan → ℕ → ℕ → Bool
+mayBecome plan label Y =
+    every (plan .identifiers) (λ i.
+    not (offends12 label (at plan Y) i) && (not (offends13 label (at plan Y) i) && not (offends16 label (at plan Y) i)))
+
+-- "A child has lab Y, its parent's tags, and its own serial as tag of each identifier Y creates."
+unfoldable pub child : Plan → Process → ℕ → ℕ → Process
+child plan parent serial Y = record {
+  serial = serial;
+  template = Y;
+  label = at plan Y .lab;
+  tags = tabulate (plan .identifiers) (λ i. cond (creates plan i Y) serial (tag parent i));
+}
+
+unfoldable pub spawn : Plan → Process → ℕ → List ℕ → List Process
+spawn plan parent next [] = []
+spawn plan parent next (Y ∷ rest) = child plan parent next Y ∷ spawn plan parent (suc next) rest
+
+-- 22 to 25, for the process p and the templates of its children.
+unfoldable pub stepAnswer : Limits → Machine → Process → ℕ → List ℕ → Answer
+stepAnswer limits m p branch templates =
+    refuseIf (not (branchFits (at (m .plan) (p .template) .form) branch)) 22
+    (refuseIf (eqb (length templates) 2 && not (limits .processes (length (m .live) + 1))) 23
+    (refuseIf (not (limits .serials (m .next + length templates))) 24
+    (refuseIf (not (all (mayBecome (m .plan) (p .label)) templates)) 25
+    Done)))
+
+-- "Else the process goes"; its children come after all others.
+unfoldable pub stepped : Machine → ℕ → Process → List ℕ → Machine
+stepped m s p templates = record {
+  plan = m .plan;
+  next = m .next + length templates;
+  live = remove s (m .live) ++ spawn (m .plan) p (m .next) templates;
+}
+
+unfoldable pub settled : Machine → Answer → Machine → Outcome
+settled old answer new = record { answer = answer; machine = ifDone answer new old }
+
+unfoldable pub stepBy : Limits → Machine → ℕ → ℕ → Option Process → Outcome
+stepBy limits m s branch none = settled m (Refused 21) m
+stepBy limits m s branch (some p) =
+    let templates = children (at (m .plan) (p .template) .form) branch in
+    settled m (stepAnswer limits m p branch templates) (stepped m s p templates)
+
+-- ---- send
+
+-- "Delivered exactly when each identifier of the sender's label is in the receiver's and their tags for it are equal."
+unfoldable pub passes : Plan → Process → Process → Bool
+passes plan p q =
+    every (plan .identifiers) (λ i. not (has i (p .label)) || (has i (q .label) && eqb (tag p i) (tag q i)))
+
+-- "21 if either is not live; 26 if equal"; "else held, which means lost. The state stays."
+unfoldable pub sendBy : Machine → ℕ → ℕ → Option Process → Option Process → Outcome
+sendBy m from to none q = settled m (Refused 21) m
+sendBy m from to (some p) none = settled m (Refused 21) m
+sendBy m from to (some p) (some q) =
+    settled m (refuseIf (eqb from to) 26 (cond (passes (m .plan) p q) Delivered Held)) m
+
+-- ---- raise and lower
+
+-- "27 if the identifier is not below M; 28 if the template is not at risk; 29 if not in pos (raise) or neg (lower)":
+-- allowed is that mask.
+unfoldable pub moveAnswer : Plan → Process → ℕ → ℕ → Answer
+moveAnswer plan p i allowed =
+    refuseIf (not (ltb i (plan .identifiers))) 27
+    (refuseIf (not (at plan (p .template) .risk)) 28
+    (refuseIf (not (has i allowed)) 29
+    Done))
+
+-- "Else the label has, or lacks, that identifier."
+abbrev pub relabelled : Process → ℕ → Process
+relabelled p label = record { serial = p .serial; template = p .template; label = label; tags = p .tags }
+
+unfoldable pub relabel : ℕ → ℕ → List Process → List Process
+relabel s label [] = []
+relabel s label (p ∷ rest) = cond (eqb (p .serial) s) (relabelled p label) p ∷ relabel s label rest
+
+unfoldable pub moved : Machine → ℕ → ℕ → Machine
+moved m s label = record { plan = m .plan; next = m .next; live = relabel s label (m .live) }
+
+unfoldable pub raiseBy : Machine → ℕ → ℕ → Option Process → Outcome
+raiseBy m s i none = settled m (Refused 21) m
+raiseBy m s i (some p) =
+    settled m (moveAnswer (m .plan) p i (at (m .plan) (p .template) .pos)) (moved m s (plus (p .label) i))
+
+unfoldable pub lowerBy : Machine → ℕ → ℕ → Option Process → Outcome
+lowerBy m s i none = settled m (Refused 21) m
+lowerBy m s i (some p) =
+    settled m (moveAnswer (m .plan) p i (at (m .plan) (p .template) .neg)) (moved m s (without (p .label) (2 ^ i)))
+
+-- ---- the calls
+
+unfoldable pub answerTo : Limits → Machine → Call → Outcome
+answerTo limits m (step s branch) = stepBy limits m s branch (find s (m .live))
+answerTo limits m (send from to) = sendBy m from to (find from (m .live)) (find to (m .live))
+answerTo limits m (raise s i) = raiseBy m s i (find s (m .live))
+answerTo limits m (lower s i) = lowerBy m s i (find s (m .live))
+
+-- 20 stands before every other refusal of every call.
+unfoldable pub run : Limits → Machine → Call → Outcome
+run limits m call = cond (wellFormed limits m) (answerTo limits m call) (settled m (Refused 20) m)
+
+-- "Serial 0 lives at the root, label lab 0, all tags 0, next serial 1."
+unfoldable pub root : Plan → Process
+root plan = record { serial = 0; template = 0; label = at plan 0 .lab; tags = tabulate (plan .identifiers) (λ i. 0) }
+
+unfoldable pub start : Plan → Machine
+start plan = record { plan = plan; next = 1; live = root plan ∷ [] }

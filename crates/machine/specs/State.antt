@@ -1,0 +1,69 @@
+-- What a State means: the machine that its arrays stand for.
+-- Believed: everything here. Proved against it: crate monitor.
+use Prim.Native.Nat.{ℕ, _+_, _*_}
+use mathlib.Core.List.{List}
+use lib.ListN.{getD, replicate}
+use Rattle.lists.specs.Numbers.{tabulate}
+use Rattle.plan.specs.declared.Plan.{Plan}
+use Rattle.text.specs.Reading.{readPlan, noPlan}
+use Rattle.rules.specs.declared.Verdict.{Verdict}
+use Rattle.rules.specs.declared.Verdict.the-variants.{Accepted, Broken, Unread}
+use Rattle.rules.specs.Judge.{judge}
+use Rattle.machine.specs.declared.State.{State}
+use Rattle.machine.specs.declared.Answered.{Answered}
+use Rattle.machine.specs.declared.Started.{Started}
+use Rattle.machine.specs.Machine.{Process, Machine, Outcome, start}
+
+-- What the four arrays hold.
+pub record Cells : Type 0 where
+  pub serials : List ℕ
+  pub templates : List ℕ
+  pub labels : List ℕ
+  pub tags : List ℕ
+
+-- The process at a place, of M identifiers: tag i stands at place * M + i.
+unfoldable pub placed : ℕ → Cells → ℕ → Process
+placed M cells place = record {
+  serial = getD (cells .serials) place 0;
+  template = getD (cells .templates) place 0;
+  label = getD (cells .labels) place 0;
+  tags = tabulate M (λ i. getD (cells .tags) (place * M + i) 0);
+}
+
+-- The processes at the first so many places: "unused places carry no meaning".
+unfoldable pub processesOf : ℕ → ℕ → Cells → List Process
+processesOf M live cells = tabulate live (placed M cells)
+
+unfoldable pub machineFrom : Plan → ℕ → ℕ → Cells → Machine
+machineFrom plan next live cells = record { plan = plan; next = next; live = processesOf (plan .identifiers) live cells }
+
+abbrev pub cellsOf : State → Cells
+cellsOf s = record { serials = s .serials; templates = s .templates; labels = s .labels; tags = s .tags }
+
+unfoldable pub machineOf : State → Machine
+machineOf s = machineFrom (s .plan) (s .next) (s .live) (cellsOf s)
+
+-- What an operation's answer means.
+unfoldable pub outcomeOf : Answered → Outcome
+outcomeOf r = record { answer = r .answer; machine = machineOf (r .state) }
+
+-- The state that start hands back beside a verdict that is not accepted.
+abbrev pub blankState : State
+blankState = record {
+  plan = noPlan;
+  next = 0;
+  live = 0;
+  serials = replicate 128 0;
+  templates = replicate 128 0;
+  labels = replicate 128 0;
+  tags = replicate 4096 0;
+}
+
+-- "Start judges both texts and gives the judge's answer if not accepted": the machine that it starts.
+unfoldable pub startOn : Verdict → Plan → Machine
+startOn Accepted plan = start plan
+startOn (Broken b) plan = machineOf blankState
+startOn (Unread f) plan = machineOf blankState
+
+unfoldable pub started : List ℕ → List ℕ → Machine
+started planText policyText = startOn (judge planText policyText) (readPlan planText .plan)

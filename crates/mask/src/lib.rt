@@ -1,0 +1,61 @@
+// Sets of small numbers as masks: identifiers in 32 bits, templates in 64.
+ghost use mathlib.Core.Path.{_≡_};
+ghost use Prim.Native.Nat.{_<_};
+ghost use Rattle.lists.specs.Numbers.{lowest};
+ghost use Rattle.mask.specs.Mask.{has, within, without, plus, size};
+
+// Whether item i is in the mask m; nothing stands at or past the width.
+pub fn contains_u32(m: u32, i: u32) -> bool
+    ensures { λ r. ⌜ r ≡ has i m ⌝ }
+{
+    if 32 <= i {
+        return false;
+    }
+    (m >> i) % 2 == 1
+}
+
+// Whether item x is in the mask m; nothing stands at or past the width.
+pub fn contains_u64(m: u64, x: u8) -> bool
+    ensures { λ r. ⌜ r ≡ has x m ⌝ }
+{
+    if 64 <= x {
+        return false;
+    }
+    (m >> x) % 2 == 1
+}
+
+// Whether each item of a is in b.
+pub fn is_within(a: u32, b: u32) -> bool
+    ensures { λ r. ⌜ r ≡ within 32 a b ⌝ }
+{
+    a & b == a
+}
+
+// The items of a that are not in b.
+pub fn difference(a: u32, b: u32) -> u32
+    ensures { λ r. ⌜ r ≡ without a b ⌝ }
+{
+    a - (a & b)
+}
+
+// The lowest item of m, and 32 where m has none.
+pub fn lowest_item(m: u32) -> u32
+    ensures { λ r. ⌜ r ≡ lowest 32 (λ i. has i m) ⌝ }
+{
+    u32::trailing_zeros(m)
+}
+
+// The items of m, and x.
+pub fn insert(m: u64, x: u8) -> u64
+    requires { ⌜ x < 64 ⌝ }
+    ensures { λ r. ⌜ r ≡ plus m x ⌝ }
+{
+    m | (1u64 << x)
+}
+
+// How many items m has.
+pub fn item_count(m: u64) -> u32
+    ensures { λ r. ⌜ r ≡ size 64 m ⌝ }
+{
+    u64::count_ones(m)
+}

@@ -1,0 +1,63 @@
+-- What stands at a place of a plan and of a policy (document 01, "The two texts" and "Routes").
+-- Form, Template, Plan, Assertion and Policy are the code's own types, with numbers for their fields.
+-- Believed: everything here. Proved against it: crate plan.
+use Prim.Native.Nat.{ℕ, zero, suc}
+use mathlib.Core.Path.{_≡_}
+use mathlib.Core.Logic.{_⊎_}
+use mathlib.Core.Bool.{Bool, false}
+use mathlib.Core.List.{List, [], _∷_}
+use lib.ListN.{getD}
+use Rattle.mask.specs.Mask.{has}
+use Rattle.plan.specs.declared.Form.{Form}
+use Rattle.plan.specs.declared.Form.the-variants.{End, Go, Either, Both}
+use Rattle.plan.specs.declared.Template.{Template}
+use Rattle.plan.specs.declared.Plan.{Plan}
+use Rattle.plan.specs.declared.Kind.the-variants.{Secrecy, Prot}
+use Rattle.plan.specs.declared.Assertion.{Assertion}
+use Rattle.plan.specs.declared.Policy.{Policy}
+use Rattle.plan.specs.declared.Successors.{Successors}
+
+-- What stands at a place that no line of a text filled.
+abbrev pub blank : Template
+blank = record { form = End; lab = 0; pos = 0; neg = 0; creates = 0; risk = false }
+
+abbrev pub blankAssertion : Assertion
+blankAssertion = record { kind = Secrecy; source = 0; sink = 0; anc = 0; declass = 0 }
+
+-- Template X of a plan.
+unfoldable pub at : Plan → ℕ → Template
+at plan X = getD (plan .templates) X blank
+
+-- The assertion at a place, from 0.
+unfoldable pub assertionAt : Policy → ℕ → Assertion
+assertionAt policy i = getD (policy .assertions) i blankAssertion
+
+-- "Y (and Z) are the successors of a template; `end` has none."
+unfoldable pub successors : Form → List ℕ
+successors End = []
+successors (Go Y) = Y ∷ []
+successors (Either Y Z) = Y ∷ Z ∷ []
+successors (Both Y Z) = Y ∷ Z ∷ []
+
+-- x stands in a list.
+abbrev pub Among : ℕ → List ℕ → Type 0
+Among x [] = ⊥
+Among x (y ∷ l) = (x ≡ y) ⊎ Among x l
+
+-- Y is a successor of template X.
+abbrev pub Successor : Plan → ℕ → ℕ → Type 0
+Successor plan X Y = Among Y (successors (at plan X .form))
+
+-- "C is the template that creates identifier t, if there is one": whether X is C.
+-- Rule 11 leaves at most one such template.
+unfoldable pub creates : Plan → ℕ → ℕ → Bool
+creates plan t X = has t (at plan X .creates)
+
+-- The list that the code's answer stands for.
+abbrev pub listFor : ℕ → ℕ → ℕ → List ℕ
+listFor zero y z = []
+listFor (suc zero) y z = y ∷ []
+listFor (suc (suc n)) y z = y ∷ z ∷ []
+
+abbrev pub listed : Successors → List ℕ
+listed s = listFor (s .count) (s .first) (s .second)

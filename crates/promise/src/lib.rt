@@ -1,0 +1,1 @@
+// The box promise; so far its definitions.

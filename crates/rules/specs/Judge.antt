@@ -1,0 +1,150 @@
+-- The verdict: the first broken rule in document 01's order, with its figures ("The judge").
+-- Believed: everything here. Proved against it: crate rules; and accepted is said exactly when every rule of
+-- Rules.antt holds.
+use Prim.Native.Nat.{ℕ, zero, suc}
+use Prim.Native.String.{String}
+use mathlib.Core.Bool.{Bool, true, false, not, cond, _&&_, _||_}
+use mathlib.Core.List.{List, [], _∷_}
+use lib.Dec.{ltb}
+use Rattle.lists.specs.Numbers.{every, any, lowest}
+use Rattle.mask.specs.Mask.{has}
+use Rattle.plan.specs.declared.Plan.{Plan}
+use Rattle.plan.specs.declared.Kind.{Kind}
+use Rattle.plan.specs.declared.Kind.the-variants.{Secrecy, Prot}
+use Rattle.plan.specs.declared.Assertion.{Assertion}
+use Rattle.plan.specs.declared.Policy.{Policy}
+use Rattle.plan.specs.Plan.{at, successors, creates, assertionAt}
+use Rattle.route.specs.Search.{sharesTag, splitsTag}
+use Rattle.text.specs.declared.Reading.{Reading}
+use Rattle.text.specs.declared.Reading.the-variants.{Complete, Refused}
+use Rattle.text.specs.declared.Refusal.{Refusal}
+use Rattle.text.specs.Reading.{readPlan, readPolicy}
+use Rattle.rules.specs.Rules.{offends12, offends13, offends14, offends15, offends16, wearable}
+pub use Rattle.rules.specs.declared.Text.{Text}
+pub use Rattle.rules.specs.declared.Text.the-variants.{Plan as PlanText, Policy as PolicyText}
+pub use Rattle.rules.specs.declared.Fault.{Fault}
+pub use Rattle.rules.specs.declared.Breach.{Breach}
+pub use Rattle.rules.specs.declared.Verdict.{Verdict}
+pub use Rattle.rules.specs.declared.Verdict.the-variants.{Accepted, Broken, Unread}
+
+abbrev pub broken : ℕ → ℕ → ℕ → ℕ → Verdict
+broken rule first second identifier = Broken (record { rule = rule; first = first; second = second; identifier = identifier })
+
+-- The first of two that is not accepted.
+unfoldable pub orElse : Verdict → Verdict → Verdict
+orElse Accepted later = later
+orElse (Broken b) later = Broken b
+orElse (Unread f) later = Unread f
+
+-- The first that is not accepted of f 0, f 1, up to f (n - 1).
+unfoldable pub firstBelow : ℕ → (ℕ → Verdict) → Verdict
+firstBelow zero f = Accepted
+firstBelow (suc n) f = orElse (f zero) (firstBelow n (λ i. f (suc i)))
+
+-- The same over a list.
+unfoldable pub firstIn : List ℕ → (ℕ → Verdict) → Verdict
+firstIn [] f = Accepted
+firstIn (X ∷ rest) f = orElse (f X) (firstIn rest f)
+
+-- "The lowest identifier that breaks it."
+unfoldable pub lowestOffender : Plan → ℕ → ℕ → ℕ → (ℕ → Bool) → Verdict
+lowestOffender plan rule first second offends =
+    let i = lowest (plan .identifiers) offends in
+    cond (ltb i (plan .identifiers)) (broken rule first second i) Accepted
+
+-- 11: "lowest identifier; its two lowest templates".
+unfoldable pub creator : Plan → ℕ → ℕ
+creator plan t = lowest (plan .count) (creates plan t)
+
+unfoldable pub nextCreator : Plan → ℕ → ℕ
+nextCreator plan t = lowest (plan .count) (λ X. ltb (creator plan t) X && creates plan t X)
+
+unfoldable pub check11 : Plan → Verdict
+check11 plan =
+    let t = lowest (plan .identifiers) (λ t. ltb (nextCreator plan t) (plan .count)) in
+    cond (ltb t (plan .identifiers)) (broken 11 (creator plan t) (nextCreator plan t) t) Accepted
+
+-- "Each tested 12 to 16."
+unfoldable pub checkEdge : Plan → ℕ → ℕ → Verdict
+checkEdge plan X Y =
+    orElse (lowestOffender plan 12 X Y (offends12 (at plan X .lab) (at plan Y)))
+    (orElse (lowestOffender plan 13 X Y (offends13 (at plan X .lab) (at plan Y)))
+    (orElse (lowestOffender plan 14 X Y (offends14 (at plan X) (at plan Y)))
+    (orElse (lowestOffender plan 15 X Y (offends15 (at plan X) (at plan Y)))
+    (lowestOffender plan 16 X Y (offends16 (at plan X .lab) (at plan Y))))))
+
+-- "Edges X to Y, X rising, in form order."
+unfoldable pub checkEdges : Plan → Verdict
+checkEdges plan = firstBelow (plan .count) (λ X. firstIn (successors (at plan X .form)) (checkEdge plan X))
+
+-- Rule 17's identifier t, as a test.
+unfoldable pub serves : Plan → Assertion → ℕ → Bool
+serves plan a t =
+    has t (at plan (a .source) .lab)
+    && (every (plan .count) (λ X. has X (a .declass) || not (has t (at plan X .neg)))
+    && (not (wearable plan (a .sink) t) || not (sharesTag plan t (a .source) (a .sink) (a .anc))))
+
+-- 18 and 19 of a prot, at identifier t.
+unfoldable pub checkProt : Plan → ℕ → Assertion → ℕ → Verdict
+checkProt plan place a t =
+    cond (has t (at plan (a .source) .lab))
+    (cond (has t (at plan (a .sink) .lab))
+    (cond (splitsTag plan t (a .source) (a .sink) (a .anc)) (broken 19 place (a .sink) t) Accepted)
+    (broken 18 place (a .sink) t))
+    Accepted
+
+-- "First being its place from 0, second its sink"; of 17 the "identifier reads 255".
+unfoldable pub checkAssertion : Plan → ℕ → Assertion → Kind → Verdict
+checkAssertion plan place a Secrecy = cond (any (plan .identifiers) (serves plan a)) Accepted (broken 17 place (a .sink) 255)
+checkAssertion plan place a Prot = firstBelow (plan .identifiers) (checkProt plan place a)
+
+unfoldable pub checkAssertions : Plan → Policy → Verdict
+checkAssertions plan policy =
+    firstBelow (policy .count) (λ i. checkAssertion plan i (assertionAt policy i) (assertionAt policy i .kind))
+
+-- 11, then the edges, then the assertions.
+unfoldable pub judgeRead : Plan → Policy → Verdict
+judgeRead plan policy = orElse (check11 plan) (orElse (checkEdges plan) (checkAssertions plan policy))
+
+-- "The plan is read first; the policy only if the plan reads."
+unfoldable pub afterReading : Text → Reading → Verdict → Verdict
+afterReading text Complete verdict = verdict
+afterReading text (Refused r) verdict = Unread (record { text = text; number = r .number; line = r .line })
+
+unfoldable pub judge : List ℕ → List ℕ → Verdict
+judge planText policyText =
+    let plan = readPlan planText in
+    let policy = readPolicy (plan .plan .count) policyText in
+    afterReading PlanText (plan .answer) (afterReading PolicyText (policy .answer) (judgeRead (plan .plan) (policy .policy)))
+
+-- "It prints [..] each on its own line in that order": the paper's words and numbers of each verdict.
+pub data Value : Type 0 where
+  word : String → Value
+  figure : ℕ → Value
+
+pub record Line : Type 0 where
+  pub key : String
+  pub value : Value
+
+abbrev pub says : String → Value → Line
+says key value = record { key = key; value = value }
+
+abbrev pub textName : Text → String
+textName PlanText = "plan"
+textName PolicyText = "policy"
+
+unfoldable pub report : Verdict → List Line
+report Accepted = says "verdict" (word "accepted") ∷ []
+report (Broken b) =
+    says "verdict" (word "broken")
+    ∷ says "rule" (figure (b .rule))
+    ∷ says "first" (figure (b .first))
+    ∷ says "second" (figure (b .second))
+    ∷ says "identifier" (figure (b .identifier))
+    ∷ []
+report (Unread f) =
+    says "verdict" (word "unread")
+    ∷ says "text" (word (textName (f .text)))
+    ∷ says "number" (figure (f .number))
+    ∷ says "line" (figure (f .line))
+    ∷ []

@@ -1,0 +1,75 @@
+-- Where the shown part lies (document 01, "Showing").
+-- Believed: everything here. Proved against it: crate rules.
+use Prim.Native.Nat.{ℕ, zero, suc, _+_, _-_, _*_}
+use mathlib.Core.Bool.{Bool, cond}
+use mathlib.Core.List.{List}
+use lib.Dec.{leb, ltb}
+use lib.ListN.{length, take, drop}
+use Rattle.scan.specs.Bytes.{bytes, before}
+use Rattle.rules.specs.Judge.{Text, PlanText, PolicyText, Verdict, Accepted, Broken, Unread, judge}
+use Rattle.rules.specs.declared.Part.{Part}
+
+-- How many lines stand before the first template, in each template, before the first assertion, in each assertion.
+abbrev pub planHeader : ℕ
+planHeader = 2
+
+abbrev pub templateLines : ℕ
+templateLines = 7
+
+abbrev pub policyHeader : ℕ
+policyHeader = 1
+
+abbrev pub assertionLines : ℕ
+assertionLines = 5
+
+-- Where the line after so many lines begins, counted from `start`; the text's end where it is missing.
+unfoldable pub lineStart : ℕ → ℕ → List ℕ → ℕ
+lineStart zero start text = start
+lineStart (suc skipped) start text =
+    let end = start + before 10 (drop start text) in
+    cond (ltb end (length text)) (lineStart skipped (end + 1) text) (length text)
+
+-- The line that begins there, without byte 10.
+unfoldable pub lineEnd : ℕ → List ℕ → ℕ
+lineEnd start text = start + before 10 (drop start text)
+
+-- "The faulty line without byte 10, empty if missing or line 0 (then at the text's end)."
+unfoldable pub faultyLine : ℕ → List ℕ → ℕ
+faultyLine zero text = length text
+faultyLine (suc k) text = lineStart k 0 text
+
+abbrev pub textOf : Text → List ℕ → List ℕ → List ℕ
+textOf PlanText planText policyText = planText
+textOf PolicyText planText policyText = policyText
+
+abbrev pub from : Text → ℕ → ℕ → Part
+from text start end = record { text = text; start = start; end = end }
+
+-- "Broken 11 to 16: the name of template first": its line without the key.
+unfoldable pub nameOf : ℕ → List ℕ → Part
+nameOf X planText =
+    let start = lineStart (planHeader + templateLines * X) 0 planText in
+    from PlanText (start + length (bytes "name=")) (lineEnd start planText)
+
+-- "17 to 19: the assertion's `kind=` line, also without byte 10."
+unfoldable pub kindLine : ℕ → List ℕ → Part
+kindLine i policyText =
+    let start = lineStart (policyHeader + assertionLines * i) 0 policyText in
+    from PolicyText start (lineEnd start policyText)
+
+unfoldable pub located : Verdict → List ℕ → List ℕ → Part
+located Accepted planText policyText = from PlanText 0 0
+located (Broken b) planText policyText = cond (leb (b .rule) 16) (nameOf (b .first) planText) (kindLine (b .first) policyText)
+located (Unread f) planText policyText =
+    let text = textOf (f .text) planText policyText in
+    let start = faultyLine (f .line) text in
+    from (f .text) start (lineEnd start text)
+
+-- "Showing takes the texts, judges them": where the part lies, and the bytes between.
+unfoldable pub locate : List ℕ → List ℕ → Part
+locate planText policyText = located (judge planText policyText) planText policyText
+
+unfoldable pub shown : List ℕ → List ℕ → List ℕ
+shown planText policyText =
+    let part = locate planText policyText in
+    take (part .end - part .start) (drop (part .start) (textOf (part .text) planText policyText))
