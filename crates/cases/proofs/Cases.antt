@@ -4,7 +4,8 @@ use mathlib.Core.List.{List, [], _∷_, map}
 use Rattle.lists.specs.Numbers.{every, any, lowest, tabulate, all}
 use Rattle.mask.specs.Mask.{has, within, without, plus}
 use Rattle.plan.specs.Plan.{at, assertionAt, successors, creates}
-use Rattle.route.specs.Search.{sharesTag, splitsTag, unless, enterAll, enter, reach, crossing, crossesAt, down}
+use Rattle.lists.proofs.Tests.{both, either}
+use Rattle.route.specs.Search.{chosen, including, collect, only, meet, enterAll, isOpen, enter, reach, ways, targets, holds, passes as passesWay, crosses, branchesCross, forkCrosses, leads, anyIn, sharesTag, splitsTag}
 use Rattle.scan.specs.Bytes.{before, startsWith, same, standsIn}
 use Rattle.field.specs.Fields.{andThen, digit, digits, decimal, number, templateNumber, mask, nameByte, name, pair, form, risk, kind, misplaced, declass}
 use Rattle.text.specs.Reading.{field, settle, line, entry, entries, plan, assertion, assertions, policy, closed, checked, ifComplete, readPlan, readPolicy}
@@ -16,5 +17,5 @@ use Rattle.cases.specs.Base.{text, basePlan, basePolicy, changed, withPr
 use Rattle.cases.specs.Rows.{Question, Reply, Row, reply, afterCalls, box, left, rows}
 
 pub cases : map (λ (r : Row). reply (r .asked)) rows ≡ map (λ (r : Row). r .told) rows
-unfolding every any lowest tabulate all has within without plus at assertionAt successors creates sharesTag splitsTag unless enterAll enter reach crossing crossesAt down before startsWith same standsIn andThen digit digits decimal number templateNumber mask nameByte name pair form risk kind misplaced declass field settle line entry entries plan assertion assertions policy closed checked ifComplete readPlan readPolicy wearable orElse firstBelow firstIn lowestOffender creator nextCreator check11 checkEdge checkEdges serves checkProt checkAssertion checkAssertions judgeRead afterReading judge report tag refuseIf ifDone templateFits planFits processFits rising populationFits wellFormed find remove branchFits children mayBecome child spawn stepAnswer stepped settled stepBy passes sendBy moveAnswer relabel moved raiseBy lowerBy answerTo run root start placed processesOf machineFrom machineOf startOn started text basePlan basePolicy changed withProt planD planE fullPlan reply afterCalls box left rows
+unfolding every any lowest tabulate all has within without plus at assertionAt successors creates both either chosen including collect only meet enterAll isOpen enter reach ways targets holds passesWay crosses branchesCross forkCrosses leads anyIn sharesTag splitsTag before startsWith same standsIn andThen digit digits decimal number templateNumber mask nameByte name pair form risk kind misplaced declass field settle line entry entries plan assertion assertions policy closed checked ifComplete readPlan readPolicy wearable orElse firstBelow firstIn lowestOffender creator nextCreator check11 checkEdge checkEdges serves checkProt checkAssertion checkAssertions judgeRead afterReading judge report tag refuseIf ifDone templateFits planFits processFits rising populationFits wellFormed find remove branchFits children mayBecome child spawn stepAnswer stepped settled stepBy passes sendBy moveAnswer relabel moved raiseBy lowerBy answerTo run root start placed processesOf machineFrom machineOf startOn started text basePlan basePolicy changed withProt planD planE fullPlan reply afterCalls box left rows
 cases = refl

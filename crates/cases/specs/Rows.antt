@@ -1,7 +1,6 @@
 -- Cases a to m of document 01, and its "Also" lines: what is asked, and what is answered.
-use Prim.Native.Nat.{ℕ, _+_}
+use Prim.Native.Nat.{ℕ}
 use Prim.Native.String.{String}
-use mathlib.Core.Bool.{Bool, true, false}
 use mathlib.Core.List.{List, [], _∷_, _++_, map}
 use Rattle.text.specs.declared.Reading.{Reading}
 use Rattle.text.specs.declared.Reading.the-variants.{Complete}
@@ -9,7 +8,7 @@ use Rattle.text.specs.Reading.{readPlan}
 use Rattle.rules.specs.Judge.{judge, Line, says, word, figure, report}
 use Rattle.machine.specs.declared.Answer.{Answer}
 use Rattle.machine.specs.declared.Answer.the-variants.{Done, Delivered, Held, Refused}
-use Rattle.machine.specs.Machine.{Process, Machine, boxLimits, Call, step, send, raise, lower, run}
+use Rattle.machine.specs.Machine.{Process, Machine, boxLimits, Call, step, send, raise, run}
 use Rattle.machine.specs.State.{started}
 use Rattle.cases.specs.Base.{text, basePlan, basePolicy, changed, withProt, planD, planE, fullPlan}
 

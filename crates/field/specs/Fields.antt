@@ -2,7 +2,7 @@
 -- Refusals: 2 not of its layout, 3 out of range, 4 a mask beyond the plan, 5 a name that stood earlier, 6 a declass
 -- that its kind forbids. On one line the tests come in that order.
 -- Believed: everything here. Proved against it: crate field.
-use Prim.Native.Nat.{ℕ, zero, suc, _+_, _-_, _*_, _^_}
+use Prim.Native.Nat.{ℕ, _+_, _-_, _*_, _^_}
 use mathlib.Core.Bool.{Bool, true, false, not, cond, _&&_, _||_}
 use mathlib.Core.List.{List, [], _∷_}
 use lib.Dec.{eqb, leb, ltb}

@@ -1,13 +1,13 @@
 -- The monitor's machine (document 01, "The monitor's machine").
 -- Read this to know what step, send, raise and lower answer. Masks are seen through `has` alone.
 -- Believed: everything here. Proved against it: crate monitor.
-use Prim.Native.Nat.{ℕ, zero, suc, _+_, _-_, _^_}
+use Prim.Native.Nat.{ℕ, suc, _+_, _-_, _^_}
 use mathlib.Core.Bool.{Bool, true, false, not, cond, _&&_, _||_}
 use mathlib.Core.List.{List, [], _∷_, _++_, map}
 use mathlib.Core.Option.{Option, none, some}
 use lib.Dec.{eqb, leb, ltb}
 use lib.ListN.{length, getD}
-use Rattle.lists.specs.Numbers.{every, any, all, tabulate}
+use Rattle.lists.specs.Numbers.{every, all, tabulate}
 use Rattle.mask.specs.Mask.{has, plus, without}
 use Rattle.plan.specs.declared.Form.{Form}
 use Rattle.plan.specs.declared.Form.the-variants.{End, Go, Either, Both}

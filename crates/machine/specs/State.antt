@@ -11,7 +11,6 @@ use Rattle.rules.specs.declared.Verdict.the-variants.{Accepted, Broken, Unread}
 use Rattle.rules.specs.Judge.{judge}
 use Rattle.machine.specs.declared.State.{State}
 use Rattle.machine.specs.declared.Answered.{Answered}
-use Rattle.machine.specs.declared.Started.{Started}
 use Rattle.machine.specs.Machine.{Process, Machine, Outcome, start}
 
 -- What the four arrays hold.

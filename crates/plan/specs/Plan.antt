@@ -12,7 +12,7 @@ use Rattle.plan.specs.declared.Form.{Form}
 use Rattle.plan.specs.declared.Form.the-variants.{End, Go, Either, Both}
 use Rattle.plan.specs.declared.Template.{Template}
 use Rattle.plan.specs.declared.Plan.{Plan}
-use Rattle.plan.specs.declared.Kind.the-variants.{Secrecy, Prot}
+use Rattle.plan.specs.declared.Kind.the-variants.{Secrecy}
 use Rattle.plan.specs.declared.Assertion.{Assertion}
 use Rattle.plan.specs.declared.Policy.{Policy}
 use Rattle.plan.specs.declared.Successors.{Successors}

@@ -5,7 +5,6 @@ use Prim.Native.Nat.{ℕ, _≤_, _<_}
 use mathlib.Core.Path.{_≡_}
 use mathlib.Core.Bool.{true, false}
 use Rattle.mask.specs.Mask.{has}
-use Rattle.plan.specs.declared.Template.{Template}
 use Rattle.plan.specs.declared.Plan.{Plan}
 use Rattle.plan.specs.declared.Kind.{Kind}
 use Rattle.plan.specs.declared.Kind.the-variants.{Secrecy, Prot}

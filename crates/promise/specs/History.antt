@@ -1,7 +1,7 @@
 -- Kin and flow (document 01, "Kin and flow"): what the plan, the calls and the machine's answers tell of every process
 -- that was ever made. Nothing here is read from what the program keeps.
 -- Believed: everything here. Proved with it: crate promise.
-use Prim.Native.Nat.{ℕ, zero, suc}
+use Prim.Native.Nat.{ℕ, suc}
 use mathlib.Core.Path.{_≡_}
 use mathlib.Core.Bool.{Bool, true, false, not, cond, _&&_, _||_, Bool·beq}
 use mathlib.Core.List.{List, [], _∷_}

@@ -3,7 +3,7 @@
 -- Rules.antt holds.
 use Prim.Native.Nat.{ℕ, zero, suc}
 use Prim.Native.String.{String}
-use mathlib.Core.Bool.{Bool, true, false, not, cond, _&&_, _||_}
+use mathlib.Core.Bool.{Bool, not, cond, _&&_, _||_}
 use mathlib.Core.List.{List, [], _∷_}
 use lib.Dec.{ltb}
 use Rattle.lists.specs.Numbers.{every, any, lowest}
@@ -17,7 +17,6 @@ use Rattle.plan.specs.Plan.{at, successors, creates, assertionAt}
 use Rattle.route.specs.Search.{sharesTag, splitsTag}
 use Rattle.text.specs.declared.Reading.{Reading}
 use Rattle.text.specs.declared.Reading.the-variants.{Complete, Refused}
-use Rattle.text.specs.declared.Refusal.{Refusal}
 use Rattle.text.specs.Reading.{readPlan, readPolicy}
 use Rattle.rules.specs.Rules.{offends12, offends13, offends14, offends15, offends16, wearable}
 pub use Rattle.rules.specs.declared.Text.{Text}

@@ -1,3 +1,4 @@
 pub mod Rules
 pub mod Judge
+pub mod Broken
 pub mod Show

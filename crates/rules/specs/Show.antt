@@ -1,7 +1,7 @@
 -- Where the shown part lies (document 01, "Showing").
 -- Believed: everything here. Proved against it: crate rules.
 use Prim.Native.Nat.{ℕ, zero, suc, _+_, _-_, _*_}
-use mathlib.Core.Bool.{Bool, cond}
+use mathlib.Core.Bool.{cond}
 use mathlib.Core.List.{List}
 use lib.Dec.{leb, ltb}
 use lib.ListN.{length, take, drop}

@@ -1,4 +1,7 @@
-// The judge's answers; so far their types, the rules and the verdict as definitions.
+// The judge's answers: their types, and the first of two that is not accepted.
+ghost use mathlib.Core.Path.{_≡_};
+ghost use Rattle.rules.specs.Judge.{orElse};
+ghost use Rattle.rules.specs.Broken.{accepted};
 
 // Which of the two texts.
 pub enum Text {
@@ -32,4 +35,24 @@ pub struct Part {
     pub text: Text,
     pub start: usize,
     pub end: usize,
+}
+
+pub fn is_accepted(v: Verdict) -> bool
+    ensures { λ r. ⌜ r ≡ accepted v ⌝ }
+{
+    match v {
+        Verdict::Accepted => true,
+        Verdict::Broken(_) => false,
+        Verdict::Unread(_) => false,
+    }
+}
+
+// The first of two that is not accepted.
+pub fn or_else(v: Verdict, later: Verdict) -> Verdict
+    ensures { λ r. ⌜ r ≡ orElse v later ⌝ }
+{
+    if is_accepted(v) {
+        return later;
+    }
+    v
 }

@@ -4,7 +4,7 @@
 -- Believed: everything here. Proved against it: crate text.
 use Prim.Native.Nat.{ℕ, zero, suc, _+_, _-_}
 use Prim.Native.String.{String}
-use mathlib.Core.Bool.{Bool, false, cond, _&&_}
+use mathlib.Core.Bool.{false, cond, _&&_}
 use mathlib.Core.List.{List, [], _∷_, _++_}
 use lib.Dec.{leb, ltb}
 use lib.ListN.{length, take, drop, replicate}
@@ -17,7 +17,6 @@ use Rattle.plan.specs.declared.Policy.{Policy}
 use Rattle.plan.specs.Plan.{blank, blankAssertion}
 use Rattle.scan.specs.Bytes.{bytes, before, startsWith}
 use Rattle.field.specs.Fields.{Field, is, bad, andThen, number, templateNumber, mask, name, form, risk, kind, declass}
-use Rattle.text.specs.declared.Refusal.{Refusal}
 use Rattle.text.specs.declared.Reading.{Reading}
 use Rattle.text.specs.declared.Reading.the-variants.{Complete, Refused}
 use Rattle.text.specs.declared.PlanRead.{PlanRead}

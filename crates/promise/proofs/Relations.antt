@@ -1,0 +1,136 @@
+-- What separated lineages say about the plan. If two processes have the same tag of t and are not kin under A, their
+-- lineages show SharedTag (document 01's Joined); if they part at a fork, are kin and have different tags, SplitTag
+-- (Parted). So a plan without the relation has no such processes.
+use Prim.Native.Nat.{ℕ}
+use mathlib.Core.Path.{_≡_, refl, sym, ap, _∙_}
+use mathlib.Core.Logic.{_⊎_, inl, inr}
+use mathlib.Core.List.{List, _∷_}
+use mathlib.Core.Option.{Option, none, some}
+use Rattle.plan.specs.declared.Plan.{Plan}
+use Rattle.plan.specs.Plan.{Successor, creates}
+use Rattle.route.specs.Route.{Holds, is, ReachedLacking, Forked}
+use Rattle.route.specs.Tags.{SharedTag, SplitTag}
+use Rattle.promise.specs.History.{Node, nearest}
+use Rattle.promise.proofs.Lineage.{maker, Lacking, Holding, Descent, Routed, lacking?, maker-skip, nearest-skip, nearest-maker, nearest-none, nearest-some, descent-route, young-route}
+use Rattle.promise.proofs.Separation.{Parting, Over}
+
+-- Both lineages have a nearest process at A, and it is the same.
+abbrev pub Kindred : ℕ → List Node → List Node → Type 0
+Kindred A lx ly = (s : ℕ) × (nearest (is A) lx ≡ some s) × (nearest (is A) ly ≡ some s)
+
+module _ (plan : Plan) (n m : Node) (l k : List Node) where
+  -- ---- where they part
+
+  module _ (a : Parting plan (n ∷ l) (m ∷ k)) where
+    to-x : Routed plan (a .X) (n .template) (a .part-x)
+    to-x = young-route plan (a .X) n l (a .part-x) (a .fork ∷ a .rest) (a .split-x) (a .descent-x)
+
+    to-y : Routed plan (a .Y) (m .template) (a .part-y)
+    to-y = young-route plan (a .Y) m k (a .part-y) (a .fork ∷ a .rest) (a .split-y) (a .descent-y)
+
+    to-fork : Routed plan 0 (a .fork .template) (a .fork ∷ a .rest)
+    to-fork = descent-route plan 0 (a .fork) (a .rest) (a .root)
+
+    -- The fork with its branches, and the routes to both processes.
+    abbrev forked : Forked plan (n .template) (m .template)
+    forked = record {
+      L = a .fork .template;
+      one = a .X;
+      other = a .Y;
+      to-S = to-x .list;
+      to-K = to-y .list;
+      reached = (to-fork .list, to-fork .route);
+      branches = a .branches;
+      route-S = to-x .route;
+      route-K = to-y .route;
+    }
+
+    -- Equal tags of t: the plan shares the tag, or the two are kin.
+    pub parted-shared : (t A : ℕ) → maker (creates plan t) (n ∷ l) ≡ maker (creates plan t) (m ∷ k)
+        → SharedTag plan t (n .template) (m .template) A ⊎ Kindred A (n ∷ l) (m ∷ k)
+    parted-shared t A e = pick (lacking? (is A) (a .part-x)) (lacking? (is A) (a .part-y)) (nearest (is A) (a .fork ∷ a .rest)) refl
+      where
+        shared : (Holds (is A) (to-x .list) ⊎ Holds (is A) (to-y .list)) ⊎ ReachedLacking plan A (a .fork .template)
+            → SharedTag plan t (n .template) (m .template) A
+        shared c = inl (record {
+          fork = forked;
+          kept-S = to-x .lacks (creates plan t) (a .same (creates plan t) e .0);
+          kept-K = to-y .lacks (creates plan t) (a .same (creates plan t) e .1);
+          ancestor = c;
+        })
+
+        pick : Lacking (is A) (a .part-x) ⊎ Holding (is A) (a .part-x) → Lacking (is A) (a .part-y) ⊎ Holding (is A) (a .part-y)
+            → (o : Option ℕ) → nearest (is A) (a .fork ∷ a .rest) ≡ o
+            → SharedTag plan t (n .template) (m .template) A ⊎ Kindred A (n ∷ l) (m ∷ k)
+        pick (inr h) j o q = inl (shared (inl (inl (to-x .holds (is A) h))))
+        pick (inl h) (inr j) o q = inl (shared (inl (inr (to-y .holds (is A) j))))
+        pick (inl h) (inl j) none q =
+            inl (shared (inr (to-fork .list, to-fork .route, to-fork .lacks (is A) (nearest-none (is A) (a .fork ∷ a .rest) q))))
+        pick (inl h) (inl j) (some s) q =
+            inr (
+              s,
+              ap (nearest (is A)) (a .split-x) ∙ (nearest-skip (is A) (a .part-x) (a .fork ∷ a .rest) h ∙ q),
+              ap (nearest (is A)) (a .split-y) ∙ (nearest-skip (is A) (a .part-y) (a .fork ∷ a .rest) j ∙ q),
+            )
+
+    -- Kin: their tags of t are equal, or the plan splits the tag.
+    pub parted-split : (t A : ℕ) → Kindred A (n ∷ l) (m ∷ k)
+        → (maker (creates plan t) (n ∷ l) ≡ maker (creates plan t) (m ∷ k)) ⊎ SplitTag plan t (n .template) (m .template) A
+    parted-split t A kin = pick (lacking? (creates plan t) (a .part-x)) (lacking? (creates plan t) (a .part-y))
+      where
+        bare : Lacking (is A) (a .part-x) × Lacking (is A) (a .part-y)
+        bare = a .same (is A) (nearest-maker (is A) (n ∷ l) (kin .0) (kin .1) ∙ sym (nearest-maker (is A) (m ∷ k) (kin .0) (kin .2)))
+
+        common : nearest (is A) (a .fork ∷ a .rest) ≡ some (kin .0)
+        common = sym (nearest-skip (is A) (a .part-x) (a .fork ∷ a .rest) (bare .0)) ∙ (sym (ap (nearest (is A)) (a .split-x)) ∙ kin .1)
+
+        split : Holds (creates plan t) (to-x .list) ⊎ Holds (creates plan t) (to-y .list) → SplitTag plan t (n .template) (m .template) A
+        split c = record {
+          fork = forked;
+          under = (to-fork .list, to-fork .route, to-fork .holds (is A) (nearest-some (is A) (a .fork ∷ a .rest) (kin .0) common));
+          lacks-S = to-x .lacks (is A) (bare .0);
+          lacks-K = to-y .lacks (is A) (bare .1);
+          created = c;
+        }
+
+        pick : Lacking (creates plan t) (a .part-x) ⊎ Holding (creates plan t) (a .part-x)
+            → Lacking (creates plan t) (a .part-y) ⊎ Holding (creates plan t) (a .part-y)
+            → (maker (creates plan t) (n ∷ l) ≡ maker (creates plan t) (m ∷ k)) ⊎ SplitTag plan t (n .template) (m .template) A
+        pick (inr h) j = inr (split (inl (to-x .holds (creates plan t) h)))
+        pick (inl h) (inr j) = inr (split (inr (to-y .holds (creates plan t) j)))
+        pick (inl h) (inl j) = inl (ap (maker (creates plan t)) (a .split-x) ∙ (maker-skip (creates plan t) (a .part-x) (a .fork ∷ a .rest) h
+            ∙ (sym (maker-skip (creates plan t) (a .part-y) (a .fork ∷ a .rest) j) ∙ sym (ap (maker (creates plan t)) (a .split-y)))))
+
+  -- ---- where the first is above the second
+
+  -- Equal tags of t: the plan shares the tag, or the two are kin.
+  pub over-shared : (t A : ℕ) → Descent plan 0 (n ∷ l) → (a : Over plan (n ∷ l) (m ∷ k))
+      → maker (creates plan t) (n ∷ l) ≡ maker (creates plan t) (m ∷ k)
+      → SharedTag plan t (n .template) (m .template) A ⊎ Kindred A (n ∷ l) (m ∷ k)
+  over-shared t A root a e = pick (lacking? (is A) (a .part)) (nearest (is A) (n ∷ l)) refl
+    where
+      down : Routed plan (a .X) (m .template) (a .part)
+      down = young-route plan (a .X) m k (a .part) (n ∷ l) (a .split) (a .descent)
+
+      to-n : Routed plan 0 (n .template) (n ∷ l)
+      to-n = descent-route plan 0 n l root
+
+      edge : Successor plan (n .template) (a .X)
+      edge = let q : n ≡ a .top = cc (a .begins) in rw q (a .edge)
+
+      shared : Holds (is A) (down .list) ⊎ ReachedLacking plan A (n .template) → SharedTag plan t (n .template) (m .template) A
+      shared c = inr (record {
+        reached = (to-n .list, to-n .route);
+        child = a .X;
+        successor = edge;
+        to-K = down .list;
+        route-K = down .route;
+        kept-K = down .lacks (creates plan t) (a .same (creates plan t) e);
+        ancestor = c;
+      })
+
+      pick : Lacking (is A) (a .part) ⊎ Holding (is A) (a .part) → (o : Option ℕ) → nearest (is A) (n ∷ l) ≡ o
+          → SharedTag plan t (n .template) (m .template) A ⊎ Kindred A (n ∷ l) (m ∷ k)
+      pick (inr h) o q = inl (shared (inl (down .holds (is A) h)))
+      pick (inl h) none q = inl (shared (inr (to-n .list, to-n .route, to-n .lacks (is A) (nearest-none (is A) (n ∷ l) q))))
+      pick (inl h) (some s) q = inr (s, q, ap (nearest (is A)) (a .split) ∙ (nearest-skip (is A) (a .part) (n ∷ l) h ∙ q))

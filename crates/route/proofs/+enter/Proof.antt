@@ -1,0 +1,79 @@
+-- `route::enter` enters what the search of Search.antt enters, turn by turn (Entering.antt); the number of
+-- templates not yet entered falls with each call.
+use Prim.Native.Nat.{ℕ, _<_}
+use borrow.Author.Needs.{needs}
+use borrow.Fn.Kinds.{In}
+use borrow.Fn.PlainCycle.{Measures, is, falls, and}
+use Rattle.route.proofs.Searches.{left}
+use Rattle.route.proofs.Entering.{enter-stops, enter-low, enter-less, enter-none, enter-one, enter-less-again, enter-two}
+use Rattle.route.proofs.enter.Reads as enter
+use Rattle.route.proofs.enter.Kinds as enter-kinds
+use Rattle.route.proofs.+enter.Lts-enter as enter-lts
+use Rattle.mask.proofs.insert.Reads as insert-reads
+use Rattle.route.proofs.is_open.Reads as is-open-reads
+use Rattle.route.proofs.successors_at.Reads as successors-at-reads
+use Rattle.route.proofs.+enter.{statement}
+use Rattle.route.proofs.+enter.Tie.{close}
+
+abbrev μ-enter : Measures 0 enter-kinds.ps ℕ
+μ-enter κs a = left (a .1 .1 .1 .0)
+
+abbrev enter-at : ℕ → In 0 enter-kinds.ps
+enter-at t =
+    and 0 enter-kinds.ps (is 0 enter-kinds.ps μ-enter t) enter.Pre
+
+abbrev enter-below : ℕ → In 0 enter-kinds.ps
+enter-below t =
+    and 0 enter-kinds.ps (falls 0 enter-kinds.ps _<_ μ-enter t) enter.Pre
+
+abbrev claims : ℕ → enter-lts.Claims
+claims t = (
+  is-open-reads.Asked,
+  is-open-reads.Learnt,
+  insert-reads.Asked,
+  insert-reads.Learnt,
+  successors-at-reads.Asked,
+  successors-at-reads.Learnt,
+  enter-below t,
+  enter.Post,
+)
+
+is-open-requires : (t : ℕ) → enter-lts.Need-is-open-requires (claims t) (enter-at t) enter.Post
+is-open-requires t c κs = search needs
+
+stops : (t : ℕ) → enter-lts.Need-returns (claims t) (enter-at t) enter.Post
+stops t c = search enter-stops
+
+insert-requires : (t : ℕ) → enter-lts.Need-insert-requires (claims t) (enter-at t) enter.Post
+insert-requires t c κs = search enter-low
+
+successors-at-requires : (t : ℕ) → enter-lts.Need-successors-at-requires (claims t) (enter-at t) enter.Post
+successors-at-requires t c κs = search needs
+
+none : (t : ℕ) → enter-lts.Need-returns-2 (claims t) (enter-at t) enter.Post
+none t c = search enter-none
+
+first-requires : (t : ℕ) → enter-lts.Need-enter-requires (claims t) (enter-at t) enter.Post
+first-requires t c κs = (search enter-less, tt)
+
+one : (t : ℕ) → enter-lts.Need-returns-3 (claims t) (enter-at t) enter.Post
+one t c = search enter-one
+
+second-requires : (t : ℕ) → enter-lts.Need-enter-requires-2 (claims t) (enter-at t) enter.Post
+second-requires t c κs = (search enter-less-again, tt)
+
+two : (t : ℕ) → enter-lts.Need-returns-4 (claims t) (enter-at t) enter.Post
+two t c = search enter-two
+
+pub +enter-spec : {M : Type 1} → statement M
++enter-spec =
+    close μ-enter λ t. enter-lts.spec (claims t) (enter-at t) enter.Post
+    (is-open-requires t)
+    (stops t)
+    (insert-requires t)
+    (successors-at-requires t)
+    (none t)
+    (first-requires t)
+    (one t)
+    (second-requires t)
+    (two t)

@@ -1,0 +1,74 @@
+-- Routes put together and taken apart: what is handed from a template to its successors, a way between two routes, and
+-- the place where a route passes a test.
+use Prim.Native.Nat.{ℕ, _<_}
+use mathlib.Core.Path.{_≡_}
+use mathlib.Core.Logic.{inl, inr, ⊎-elim}
+use mathlib.Core.Bool.{Bool, true, false}
+use mathlib.Core.List.{List, [], _∷_}
+use native.Mathlib.Nat.{le-trans}
+use Rattle.plan.specs.declared.Plan.{Plan}
+use Rattle.plan.specs.Plan.{Successor}
+use Rattle.plan.specs.Range.{InRange}
+use Rattle.route.specs.Route.{Route, alone, onward, Lacks, Holds, Reaches}
+
+-- Every successor is a place of the plan's 64.
+abbrev pub Low : Plan → Type 0
+Low plan = (X Y : ℕ) → Successor plan X Y → Y < 64
+
+pub range-low : (plan : Plan) → InRange plan → Low plan
+range-low plan range X Y s = le-trans (range .successors X Y s) (range .templates)
+
+-- Where nothing passes the test, every route lacks it.
+pub lacks-all : (test : ℕ → Bool) → ((X : ℕ) → test X ≡ false) → (route : List ℕ) → Lacks test route
+lacks-all test none [] = tt
+lacks-all test none (X ∷ rest) = (none X, lacks-all test none rest)
+
+module _ (plan : Plan) (test : ℕ → Bool) where
+  -- A route begins with its first template.
+  pub starts-lacking : {X Z : ℕ} {route : List ℕ} → Route plan X Z route → Lacks test route → test X ≡ false
+  starts-lacking alone l = l .0
+  starts-lacking (onward s r) l = l .0
+
+  pub starts-holding : {X Z : ℕ} {route : List ℕ} → Route plan X Z route → test X ≡ true → Holds test route
+  starts-holding alone e = inl e
+  starts-holding (onward s r) e = inl e
+
+  pub reaches-alone : (X : ℕ) → test X ≡ false → Reaches plan test X X
+  reaches-alone X e = (X ∷ [], alone, (e, tt))
+
+  pub reaches-onward : (X Y Z : ℕ) → test X ≡ false → Successor plan X Y → Reaches plan test Y Z → Reaches plan test X Z
+  reaches-onward X Y Z e s h = (X ∷ h .0, onward s (h .1), (e, h .2))
+
+  -- What holds at the start and is handed to each successor that fails the test holds at the end.
+  pub along : (P : ℕ → Type 0) → ((Y Z : ℕ) → P Y → Successor plan Y Z → test Z ≡ false → P Z)
+      → {X Z : ℕ} {route : List ℕ} → Route plan X Z route → Lacks test route → P X → P Z
+  along P step alone l p = p
+  along P step (onward {X = X} {Y = Y} s r) l p = along P step r (l .1) (step X Y p s (starts-lacking r (l .1)))
+
+-- The end of a route from a low template is low.
+pub ends-low : (plan : Plan) → Low plan → {X Z : ℕ} {route : List ℕ} → Route plan X Z route → X < 64 → Z < 64
+ends-low plan low alone x = x
+ends-low plan low (onward s r) x = ends-low plan low r (low _ _ s)
+
+module _ (plan : Plan) (barred via : ℕ → Bool) where
+  -- A route from X to Z without a barred template, on which some template passes the test via.
+  abbrev pub Passes : ℕ → ℕ → Type 0
+  Passes X Z = (route : List ℕ) × Route plan X Z route × Lacks barred route × Holds via route
+
+  meeting : {X W Z : ℕ} {first second : List ℕ} → Route plan X W first → Lacks barred first → Route plan W Z second → Lacks barred second → via W ≡ true → Passes X Z
+  meeting {second = second} alone l r k e = (second, r, k, starts-holding plan via r e)
+  meeting (onward {X = X} s q) l r k e =
+      let rest = meeting q (l .1) r k e in
+      (X ∷ rest .0, onward s (rest .1), (l .0, rest .2), inr (rest .3))
+
+  -- Two routes that meet at a template that passes.
+  pub by-way : (X W Z : ℕ) → Reaches plan barred X W → via W ≡ true → Reaches plan barred W Z → Passes X Z
+  by-way X W Z g e h = meeting (g .1) (g .2) (h .1) (h .2) e
+
+  -- And such a route is two that meet there.
+  pub at-way : {X Z : ℕ} {route : List ℕ} → Route plan X Z route → Lacks barred route → Holds via route
+      → (W : ℕ) × (via W ≡ true) × Reaches plan barred X W × Reaches plan barred W Z
+  at-way (alone {X = X}) l t = ⊎-elim (λ e. (X, e, (X ∷ [], alone, l), (X ∷ [], alone, l))) (λ z. absurd z) t
+  at-way (onward {X = X} {Y = Y} {rest = rest} s r) l t =
+      ⊎-elim (λ e. (X, e, (X ∷ [], alone, (l .0, tt)), (X ∷ rest, onward s r, l)))
+      (λ h. let w = at-way r (l .1) h in (w .0, w .1, reaches-onward plan barred X Y (w .0) (l .0) s (w .2), w .3)) t

@@ -1,0 +1,16 @@
+-- `route::include` adds x where the test of `including` holds, and leaves the mask as it is where it fails.
+use Rattle.route.proofs.Steps.{include-low, included, not-included}
+use Rattle.route.proofs.include.Statement.{statement}
+use Rattle.route.proofs.include.Tie as tie
+
+insert-requires : tie.Need-insert-requires
+insert-requires c κs = search include-low
+
+returns : tie.Need-returns
+returns c = search included
+
+returns-2 : tie.Need-returns-2
+returns-2 c = search not-included
+
+pub include-spec : {M : Type 1} → statement M
+include-spec = tie.close (tie.spec insert-requires returns returns-2)

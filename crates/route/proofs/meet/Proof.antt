@@ -1,0 +1,10 @@
+-- `route::meet`: two masks have a template in common exactly where their intersection is not 0.
+use Rattle.route.proofs.Steps.{meet-is}
+use Rattle.route.proofs.meet.Statement.{statement}
+use Rattle.route.proofs.meet.Tie as tie
+
+returns : tie.Need-returns
+returns c = search meet-is
+
+pub meet-spec : {M : Type 1} → statement M
+meet-spec = tie.close (tie.spec returns)

@@ -1,0 +1,3 @@
+pub mod Route
+pub mod Tags
+pub mod Search

@@ -1,0 +1,65 @@
+-- Routes over a plan (document 01, "Routes").
+-- Believed: everything here. Proved against it: crate route.
+use Prim.Native.Nat.{ℕ}
+use mathlib.Core.Path.{_≡_}
+use mathlib.Core.Logic.{_⊎_}
+use mathlib.Core.Bool.{Bool, true, false}
+use mathlib.Core.List.{List, [], _∷_}
+use lib.Dec.{eqb}
+use Rattle.plan.specs.declared.Form.{Form}
+use Rattle.plan.specs.declared.Form.the-variants.{End, Go, Either, Both}
+use Rattle.plan.specs.declared.Plan.{Plan}
+use Rattle.plan.specs.Plan.{at, Successor}
+
+-- "A route is a list of templates, each after the first a successor of the one before; one template alone is a
+-- route": its first template, its last, and the list.
+pub data Route (plan : Plan) : ℕ → ℕ → List ℕ → Type 0 where
+  alone : {X : ℕ} → Route plan X X (X ∷ [])
+  onward : {X Y Z : ℕ} {rest : List ℕ} → Successor plan X Y → Route plan Y Z rest → Route plan X Z (X ∷ rest)
+
+-- A route lacks, or holds, a template that passes the test; its ends count.
+abbrev pub Lacks : (ℕ → Bool) → List ℕ → Type 0
+Lacks test [] = Unit {0}
+Lacks test (X ∷ rest) = (test X ≡ false) × Lacks test rest
+
+abbrev pub Holds : (ℕ → Bool) → List ℕ → Type 0
+Holds test [] = ⊥
+Holds test (X ∷ rest) = (test X ≡ true) ⊎ Holds test rest
+
+-- The test for one template, A.
+abbrev pub is : ℕ → ℕ → Bool
+is A X = eqb X A
+
+-- Some route leads from X to Z on which no template passes the test.
+abbrev pub Reaches : Plan → (ℕ → Bool) → ℕ → ℕ → Type 0
+Reaches plan test X Z = (route : List ℕ) × Route plan X Z route × Lacks test route
+
+-- "Template 0 is the root": some route from it leads to X, and one of those lacks A, or holds A, ends included.
+abbrev pub Reached : Plan → ℕ → Type 0
+Reached plan X = (route : List ℕ) × Route plan 0 X route
+
+abbrev pub ReachedLacking : Plan → ℕ → ℕ → Type 0
+ReachedLacking plan A X = Reaches plan (is A) 0 X
+
+abbrev pub ReachedHolding : Plan → ℕ → ℕ → Type 0
+ReachedHolding plan A X = (route : List ℕ) × Route plan 0 X route × Holds (is A) route
+
+-- "Its branches are its two successors, in either assignment, also when they are equal."
+abbrev pub Branches : Form → ℕ → ℕ → Type 0
+Branches End one other = ⊥
+Branches (Go Y) one other = ⊥
+Branches (Either Y Z) one other = ⊥
+Branches (Both Y Z) one other = ((one ≡ Y) × (other ≡ Z)) ⊎ ((one ≡ Z) × (other ≡ Y))
+
+-- "A fork is a `both` template reached by some route from the root": the fork L with its branches, and a route from
+-- one branch to S and one from the other to K.
+pub record Forked (plan : Plan) (S K : ℕ) : Type 0 where
+  pub L : ℕ
+  pub one : ℕ
+  pub other : ℕ
+  pub to-S : List ℕ
+  pub to-K : List ℕ
+  pub reached : Reached plan L
+  pub branches : Branches (at plan L .form) one other
+  pub route-S : Route plan one S to-S
+  pub route-K : Route plan other K to-K

@@ -1,0 +1,302 @@
+// The searches over a plan's successors, and both tag relations by them. Each search that a relation names is made,
+// whatever the others found (document 02, U13, counts them).
+use plan::Form;
+use plan::Plan;
+use plan::Successors;
+ghost use mathlib.Core.Path.{_≡_};
+ghost use mathlib.Core.Bool.{true};
+ghost use mathlib.Core.Logic.{_↔_};
+ghost use Prim.Native.Nat.{ℕ, _<_};
+ghost use Rattle.lists.specs.Numbers.{any};
+ghost use Rattle.mask.specs.Mask.{has};
+ghost use Rattle.plan.specs.Plan.{at, listed, successors, creates};
+ghost use Rattle.plan.specs.Range.{InRange};
+ghost use Rattle.route.specs.Route.{Reaches};
+ghost use Rattle.route.specs.Tags.{SharedTag, SplitTag};
+ghost use Rattle.route.specs.Search.{among, including, collect, only, meet, isOpen, enter, reach, widened, extended, targets, crosses, branchesCross, forkCrosses, leads, anyIn, sharesTag, splitsTag};
+
+// A template to be reached, and the mask of the ways that lead to it.
+pub struct Target {
+    pub place: u8,
+    pub ways: u64,
+}
+
+// The template of the source and that of the sink.
+pub struct Targets {
+    pub source: Target,
+    pub sink: Target,
+}
+
+// Masks over forks: those reached from the root, those whose branches need no way, and those where a way will do.
+pub struct Forks {
+    pub reached: u64,
+    pub direct: u64,
+    pub passing: u64,
+}
+
+// m with the template x, where x is wanted and a place of a plan.
+fn include(m: u64, x: u8, wanted: bool) -> u64
+    ensures { λ r. ⌜ r ≡ including m x wanted ⌝ }
+{
+    if (x < 64) & wanted {
+        return mask::insert(m, x);
+    }
+    m
+}
+
+// The template x alone.
+fn only(x: u8) -> u64
+    ensures { λ r. ⌜ r ≡ only x ⌝ }
+{
+    include(0, x, true)
+}
+
+// Whether some template is in both masks.
+fn meet(m: u64, n: u64) -> bool
+    ensures { λ r. ⌜ r ≡ meet m n ⌝ }
+{
+    m & n != 0
+}
+
+// The successors of template x.
+fn successors_at(plan: Plan, x: u8) -> Successors
+    ensures { λ r. ⌜ listed r ≡ successors (at plan x .form) ⌝ }
+{
+    let template = plan::template_at(plan, x);
+    let form = template.form;
+    plan::successors_of(form)
+}
+
+// Whether template x is to be entered: a place of a plan, not seen yet and not barred.
+fn is_open(x: u8, barred: u64, seen: u64) -> bool
+    ensures { λ r. ⌜ r ≡ isOpen (among barred) seen x ⌝ }
+{
+    (x < 64) & (!mask::contains_u64(seen, x) & !mask::contains_u64(barred, x))
+}
+
+// Depth first: what was seen, with template x, if it is open, and what is entered from its successors.
+fn enter(plan: Plan, x: u8, barred: u64, seen: u64) -> u64
+    ensures { λ r. ⌜ r ≡ enter plan (among barred) 64 seen x ⌝ }
+{
+    if !is_open(x, barred, seen) {
+        return seen;
+    }
+    let here = mask::insert(seen, x);
+    let next = successors_at(plan, x);
+    if next.count == 0 {
+        return here;
+    }
+    let after = enter(plan, next.first, barred, here);
+    if next.count == 1 {
+        return after;
+    }
+    enter(plan, next.second, barred, after)
+}
+
+// The templates that routes from start reach without a barred one.
+pub fn search(plan: Plan, start: u8, barred: u64) -> u64
+    ensures tested { λ r. ⌜ r ≡ reach plan (among barred) start ⌝ }
+    ensures exact { λ r. ⌜ (InRange plan → start < 64 → (X : ℕ) → (has X r ≡ true) ↔ Reaches plan (among barred) start X) ⌝ }
+{
+    enter(plan, start, barred, 0)
+}
+
+// Whether template x creates identifier t.
+fn creates_at(plan: Plan, t: u32, x: u8) -> bool
+    ensures { λ r. ⌜ r ≡ creates plan t x ⌝ }
+{
+    let template = plan::template_at(plan, x);
+    mask::contains_u32(template.creates, t)
+}
+
+// The templates that create identifier t.
+pub fn creators(plan: Plan, t: u32) -> u64
+    ensures { λ r. ⌜ r ≡ collect 64 (creates plan t) ⌝ }
+{
+    let mut found: u64 = 0;
+    let mut x: u8 = 0;
+    while x < 64 {
+        found = include(found, x, creates_at(plan, t, x));
+        x += 1;
+    }
+    found
+}
+
+// The target with template x as one more way, where it is wanted.
+fn widen(to: Target, x: u8, wanted: bool) -> Target
+    ensures { λ r. ⌜ r ≡ widened to x wanted ⌝ }
+{
+    let place = to.place;
+    let ways = include(to.ways, x, wanted);
+    Target { place, ways }
+}
+
+// Both targets with template x as one more way, where it is one: one search, if it is one of the templates via.
+fn extend(plan: Plan, barred: u64, via: u64, to: Targets, x: u8) -> Targets
+    ensures { λ r. ⌜ r ≡ extended plan barred via to x ⌝ }
+{
+    if !mask::contains_u64(via, x) {
+        return to;
+    }
+    let m = search(plan, x, barred);
+    let source = to.source;
+    let sink = to.sink;
+    let source = widen(source, x, mask::contains_u64(m, source.place));
+    let sink = widen(sink, x, mask::contains_u64(m, sink.place));
+    Targets { source, sink }
+}
+
+// The source and the sink as targets, each with all its ways.
+fn find_targets(plan: Plan, barred: u64, via: u64, source: u8, sink: u8) -> Targets
+    ensures { λ r. ⌜ r ≡ targets 64 plan barred via source sink ⌝ }
+{
+    let mut to = Targets {
+        source: Target {
+            place: source,
+            ways: 0,
+        },
+        sink: Target {
+            place: sink,
+            ways: 0,
+        },
+    };
+    let mut x: u8 = 0;
+    while x < 64 {
+        to = extend(plan, barred, via, to, x);
+        x += 1;
+    }
+    to
+}
+
+// Whether one branch, which reaches m, leads to the source and the other, which reaches n, to the sink: by any routes
+// if direct, and by routes of which one passes a way if passing.
+fn crosses(to: Targets, direct: bool, passing: bool, m: u64, n: u64) -> bool
+    ensures { λ r. ⌜ r ≡ crosses to direct passing m n ⌝ }
+{
+    let source = to.source;
+    let sink = to.sink;
+    let at_source = mask::contains_u64(m, source.place);
+    let at_sink = mask::contains_u64(n, sink.place);
+    let by_source = meet(m, source.ways);
+    let by_sink = meet(n, sink.ways);
+    (direct & (at_source & at_sink)) | (passing & ((by_source & at_sink) | (at_source & by_sink)))
+}
+
+// Whether the branches y and z of a fork cross, in either assignment: two searches.
+fn branches_cross(
+    plan: Plan,
+    barred: u64,
+    to: Targets,
+    direct: bool,
+    passing: bool,
+    y: u8,
+    z: u8,
+) -> bool
+    ensures { λ r. ⌜ r ≡ branchesCross plan barred to direct passing y z ⌝ }
+{
+    let m = search(plan, y, barred);
+    let n = search(plan, z, barred);
+    crosses(to, direct, passing, m, n) | crosses(to, direct, passing, n, m)
+}
+
+// Whether template x is a fork whose branches cross.
+fn fork_crosses(plan: Plan, barred: u64, to: Targets, forks: Forks, x: u8) -> bool
+    ensures { λ r. ⌜ r ≡ forkCrosses plan barred to forks x ⌝ }
+{
+    if !mask::contains_u64(forks.reached, x) {
+        return false;
+    }
+    let template = plan::template_at(plan, x);
+    let form = template.form;
+    match form {
+        Form::End => false,
+        Form::Go(_) => false,
+        Form::Either(_, _) => false,
+        Form::Both(y, z) => {
+            let direct = mask::contains_u64(forks.direct, x);
+            let passing = mask::contains_u64(forks.passing, x);
+            branches_cross(plan, barred, to, direct, passing, y, z)
+        }
+    }
+}
+
+// Whether the branches of some fork cross. Every fork is tried.
+fn some_fork_crosses(plan: Plan, barred: u64, to: Targets, forks: Forks) -> bool
+    ensures { λ r. ⌜ r ≡ any 64 (forkCrosses plan barred to forks) ⌝ }
+{
+    let mut found = false;
+    let mut x: u8 = 0;
+    while x < 64 {
+        found = found | fork_crosses(plan, barred, to, forks, x);
+        x += 1;
+    }
+    found
+}
+
+// Whether routes from template y lead to the sink: one search.
+fn leads(plan: Plan, barred: u64, to: Target, direct: bool, y: u8) -> bool
+    ensures { λ r. ⌜ r ≡ leads plan barred to direct y ⌝ }
+{
+    let m = search(plan, y, barred);
+    (direct & mask::contains_u64(m, to.place)) | meet(m, to.ways)
+}
+
+// Whether routes from some successor of template x lead to the sink. Every successor is tried.
+fn some_successor_leads(plan: Plan, barred: u64, to: Target, direct: bool, x: u8) -> bool
+    ensures { λ r. ⌜ r ≡ anyIn (leads plan barred to direct) (successors (at plan x .form)) ⌝ }
+{
+    let next = successors_at(plan, x);
+    if next.count == 0 {
+        return false;
+    }
+    let first = leads(plan, barred, to, direct, next.first);
+    if next.count == 1 {
+        return first;
+    }
+    let second = leads(plan, barred, to, direct, next.second);
+    first | second
+}
+
+// Document 01's Joined (t, S, K, A): C barred, by way of A. No way is needed at a fork, nor from the source, where the
+// root reaches it without A. The searches: the root; the root, A barred; and, C barred, A, both branches of every fork,
+// every successor of the source.
+pub fn shares_tag(plan: Plan, t: u32, source: u8, sink: u8, anc: u8) -> bool
+    ensures tested { λ r. ⌜ r ≡ sharesTag plan t source sink anc ⌝ }
+    ensures exact { λ r. ⌜ (InRange plan → (r ≡ true) ↔ SharedTag plan t source sink anc) ⌝ }
+{
+    let barred = creators(plan, t);
+    let way = only(anc);
+    let root = search(plan, 0, 0);
+    let lacking = search(plan, 0, way);
+    let to = find_targets(plan, barred, way, source, sink);
+    let forks = Forks {
+        reached: root,
+        direct: lacking,
+        passing: root,
+    };
+    let at_fork = some_fork_crosses(plan, barred, to, forks);
+    let target = to.sink;
+    let free = mask::contains_u64(lacking, source);
+    let down = some_successor_leads(plan, barred, target, free, source);
+    at_fork | (mask::contains_u64(root, source) & down)
+}
+
+// Document 01's Parted (t, S, K, A): A barred, by way of C, at the forks that are reached from A. The searches: the
+// root; A; and, A barred, C if there is one and both branches of every fork.
+pub fn splits_tag(plan: Plan, t: u32, source: u8, sink: u8, anc: u8) -> bool
+    ensures tested { λ r. ⌜ r ≡ splitsTag plan t source sink anc ⌝ }
+    ensures exact { λ r. ⌜ (InRange plan → (r ≡ true) ↔ SplitTag plan t source sink anc) ⌝ }
+{
+    let barred = only(anc);
+    let way = creators(plan, t);
+    let root = search(plan, 0, 0);
+    let under = search(plan, anc, 0);
+    let to = find_targets(plan, barred, way, source, sink);
+    let forks = Forks {
+        reached: root,
+        direct: 0,
+        passing: under,
+    };
+    let at_fork = some_fork_crosses(plan, barred, to, forks);
+    mask::contains_u64(root, anc) & at_fork
+}

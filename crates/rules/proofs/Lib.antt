@@ -1,0 +1,4 @@
+pub mod Walk
+pub mod Edges
+pub mod Assertions
+pub mod Exact

@@ -1,0 +1,220 @@
+-- Walks that stop at the first verdict that is not accepted: what it means that one ends accepted, that one ends
+-- broken, and the turns of a loop that makes one.
+use Prim.Native.Nat.{ℕ, zero, suc, _+_, _≤_, _<_, suc-le-suc}
+use mathlib.Core.Path.{_≡_, refl, sym, ap, subst, _∙_}
+use mathlib.Core.Bool.{Bool, true, false, cond, false≢true}
+use mathlib.Core.Logic.{_⊎_, inl, inr, ⊎-elim}
+use mathlib.Core.List.{List, [], _∷_, _++_}
+use native.Mathlib.Nat.{not-suc-le-zero, le-of-suc-le-suc, zero-lt-suc, eq-or-lt-of-le}
+use native.Mathlib.Numerals.{add-one}
+use native.Mathlib.Omega.{arith}
+use Rattle.plan.specs.Plan.{Among}
+use Rattle.rules.specs.Judge.{Fault, Breach, Verdict, Accepted, Broken, Unread, orElse, firstBelow, firstIn}
+use Rattle.rules.specs.Broken.{accepted}
+
+-- ---- telling verdicts apart
+
+abbrev Is-accepted : Verdict → Type 0
+Is-accepted Accepted = Unit {0}
+Is-accepted (Broken b) = ⊥
+Is-accepted (Unread f) = ⊥
+
+-- Not unread.
+abbrev pub Decided : Verdict → Type 0
+Decided Accepted = Unit {0}
+Decided (Broken b) = Unit {0}
+Decided (Unread f) = ⊥
+
+abbrev breach-or : Breach → Verdict → Breach
+breach-or d Accepted = d
+breach-or d (Broken b) = b
+breach-or d (Unread f) = d
+
+pub broken-accepted : {b : Breach} → Broken b ≡ Accepted → ⊥
+broken-accepted e = subst Is-accepted (sym e) tt
+
+pub unread-accepted : {f : Fault} → Unread f ≡ Accepted → ⊥
+unread-accepted e = subst Is-accepted (sym e) tt
+
+pub unread-broken : {f : Fault} {b : Breach} → Unread f ≡ Broken b → ⊥
+unread-broken e = subst Decided (sym e) tt
+
+pub broken-same : {a b : Breach} → Broken a ≡ Broken b → a ≡ b
+broken-same {a} e = ap (breach-or a) e
+
+pub decided-not : (v : Verdict) {f : Fault} → Decided v → v ≡ Unread f → ⊥
+decided-not v d e = subst Decided e d
+
+-- ---- a test that breaks a rule
+
+pub test-accepted : (c : Bool) (b : Breach) → cond c (Broken b) Accepted ≡ Accepted → c ≡ false
+test-accepted true b e = absurd (broken-accepted e)
+test-accepted false b e = refl
+
+pub test-broken : (c : Bool) (a b : Breach) → cond c (Broken a) Accepted ≡ Broken b → (c ≡ true) × (a ≡ b)
+test-broken true a b e = (refl, broken-same e)
+test-broken false a b e = absurd (broken-accepted (sym e))
+
+pub test-decided : (c : Bool) (b : Breach) → Decided (cond c (Broken b) Accepted)
+test-decided true b = tt
+test-decided false b = tt
+
+-- ---- one after the other
+
+pub or-accepted : (v w : Verdict) → orElse v w ≡ Accepted → (v ≡ Accepted) × (w ≡ Accepted)
+unfolding orElse
+or-accepted Accepted w e = (refl, e)
+or-accepted (Broken b) w e = absurd (broken-accepted e)
+or-accepted (Unread f) w e = absurd (unread-accepted e)
+
+pub or-both : (v w : Verdict) → v ≡ Accepted → w ≡ Accepted → orElse v w ≡ Accepted
+unfolding orElse
+or-both v w e h = ap (λ (x : Verdict). orElse x w) e ∙ h
+
+pub or-broken : (v w : Verdict) (b : Breach) → orElse v w ≡ Broken b → (v ≡ Broken b) ⊎ ((v ≡ Accepted) × (w ≡ Broken b))
+unfolding orElse
+or-broken Accepted w b e = inr (refl, e)
+or-broken (Broken a) w b e = inl e
+or-broken (Unread f) w b e = absurd (unread-broken e)
+
+pub or-decided : (v w : Verdict) → Decided v → Decided w → Decided (orElse v w)
+unfolding orElse
+or-decided Accepted w d k = k
+or-decided (Broken b) w d k = tt
+or-decided (Unread f) w d k = absurd d
+
+-- As code meets it: the first answer stands where it is not accepted, else the second.
+pub or-first : (v w : Verdict) (b : Breach) → v ≡ Broken b → Broken b ≡ orElse v w
+unfolding orElse
+or-first v w b e = sym (ap (λ (x : Verdict). orElse x w) e)
+
+pub or-unread : (v w : Verdict) (f : Fault) → v ≡ Unread f → Unread f ≡ orElse v w
+unfolding orElse
+or-unread v w f e = sym (ap (λ (x : Verdict). orElse x w) e)
+
+pub or-second : (v w : Verdict) → v ≡ Accepted → w ≡ orElse v w
+unfolding orElse
+or-second v w e = sym (ap (λ (x : Verdict). orElse x w) e)
+
+-- The code's test.
+pub accepted-is : (v : Verdict) → accepted v ≡ true → v ≡ Accepted
+unfolding accepted
+accepted-is Accepted e = refl
+accepted-is (Broken b) e = absurd (false≢true e)
+accepted-is (Unread f) e = absurd (false≢true e)
+
+pub or-passed : (v w : Verdict) (a : Bool) → a ≡ accepted v → a ≡ true → w ≡ orElse v w
+or-passed v w a t e = or-second v w (accepted-is v (sym t ∙ e))
+
+pub or-stopped : (v w : Verdict) (a : Bool) → a ≡ accepted v → a ≡ false → v ≡ orElse v w
+unfolding accepted orElse
+or-stopped Accepted w a t e = absurd (false≢true (sym e ∙ t))
+or-stopped (Broken b) w a t e = refl
+or-stopped (Unread f) w a t e = refl
+
+-- ---- numbers rising
+
+pub below-each : (n : ℕ) (f : ℕ → Verdict) → firstBelow n f ≡ Accepted → (i : ℕ) → i < n → f i ≡ Accepted
+unfolding firstBelow
+below-each zero f e i h = absurd (not-suc-le-zero h)
+below-each (suc n) f e zero h = or-accepted (f zero) (firstBelow n (λ i. f (suc i))) e .0
+below-each (suc n) f e (suc i) h = below-each n (λ i. f (suc i)) (or-accepted (f zero) (firstBelow n (λ i. f (suc i))) e .1) i (le-of-suc-le-suc h)
+
+pub below-all : (n : ℕ) (f : ℕ → Verdict) → ((i : ℕ) → i < n → f i ≡ Accepted) → firstBelow n f ≡ Accepted
+unfolding firstBelow
+below-all zero f h = refl
+below-all (suc n) f h = or-both (f zero) (firstBelow n (λ i. f (suc i))) (h zero (zero-lt-suc n)) (below-all n (λ i. f (suc i)) (λ i l. h (suc i) (suc-le-suc l)))
+
+-- Where the walk stops: the first place that is not accepted.
+pub record Stop (n : ℕ) (f : ℕ → Verdict) (b : Breach) : Type 0 where
+  pub place : ℕ
+  pub inside : place < n
+  pub there : f place ≡ Broken b
+  pub earlier : (i : ℕ) → i < place → f i ≡ Accepted
+
+later : (n : ℕ) (f : ℕ → Verdict) (b : Breach) → f zero ≡ Accepted → Stop n (λ i. f (suc i)) b → Stop (suc n) f b
+later n f b e s = record { place = suc (s .place); inside = suc-le-suc (s .inside); there = s .there; earlier = go }
+  where
+    go : (i : ℕ) → i < suc (s .place) → f i ≡ Accepted
+    go zero h = e
+    go (suc i) h = s .earlier i (le-of-suc-le-suc h)
+
+pub below-stop : (n : ℕ) (f : ℕ → Verdict) (b : Breach) → firstBelow n f ≡ Broken b → Stop n f b
+unfolding firstBelow
+below-stop zero f b e = absurd (broken-accepted (sym e))
+below-stop (suc n) f b e =
+    ⊎-elim (λ h. record { place = zero; inside = zero-lt-suc n; there = h; earlier = λ i l. absurd (not-suc-le-zero l) })
+    (λ h. later n f b (h .0) (below-stop n (λ i. f (suc i)) b (h .1)))
+    (or-broken (f zero) (firstBelow n (λ i. f (suc i))) b e)
+
+pub below-decided : (n : ℕ) (f : ℕ → Verdict) → ((i : ℕ) → Decided (f i)) → Decided (firstBelow n f)
+unfolding firstBelow
+below-decided zero f d = tt
+below-decided (suc n) f d = or-decided (f zero) (firstBelow n (λ i. f (suc i))) (d zero) (below-decided n (λ i. f (suc i)) (λ i. d (suc i)))
+
+-- ---- numbers rising: the turns of a loop
+
+pub below-none : (f : ℕ → Verdict) → firstBelow 0 f ≡ Accepted
+unfolding firstBelow
+below-none f = refl
+
+-- One more turn of a loop that leaves where it is broken.
+pub below-more : (n : ℕ) (f : ℕ → Verdict) → firstBelow n f ≡ Accepted → f n ≡ Accepted → firstBelow (n + 1) f ≡ Accepted
+below-more n f e h = below-all (n + 1) f (λ i l. ⊎-elim (λ q. ap f q ∙ h) (below-each n f e i) (eq-or-lt-of-le (le-of-suc-le-suc (subst (λ (k : ℕ). suc i ≤ k) (add-one n) l))))
+
+first-at : (n : ℕ) (f : ℕ → Verdict) (i : ℕ) → i < n → ((j : ℕ) → j < i → f j ≡ Accepted) → accepted (f i) ≡ false → f i ≡ firstBelow n f
+unfolding firstBelow
+first-at zero f i h a e = absurd (not-suc-le-zero h)
+first-at (suc n) f zero h a e = or-stopped (f zero) (firstBelow n (λ i. f (suc i))) (accepted (f zero)) refl e
+first-at (suc n) f (suc i) h a e =
+    first-at n (λ i. f (suc i)) i (le-of-suc-le-suc h) (λ j l. a (suc j) (suc-le-suc l)) e
+    ∙ or-second (f zero) (firstBelow n (λ i. f (suc i))) (a zero (zero-lt-suc i))
+
+-- It leaves: v at i is not accepted.
+pub below-leaves : (n : ℕ) (f : ℕ → Verdict) (i : ℕ) (v : Verdict) → i < n → firstBelow i f ≡ Accepted → v ≡ f i → (a : Bool) → a ≡ accepted v → a ≡ false → v ≡ firstBelow n f
+below-leaves n f i v h p e a t q = e ∙ first-at n f i h (below-each i f p) (ap accepted (sym e) ∙ sym t ∙ q)
+
+-- It ran to the end.
+pub below-end : (n : ℕ) (f : ℕ → Verdict) (i : ℕ) → i ≤ n → n ≤ i → firstBelow i f ≡ Accepted → Accepted ≡ firstBelow n f
+below-end n f i l g e = let q : i ≡ n = omega arith in sym (subst (λ (k : ℕ). firstBelow k f ≡ Accepted) q e)
+
+-- ---- a list
+
+pub in-each : (l : List ℕ) (f : ℕ → Verdict) → firstIn l f ≡ Accepted → (Y : ℕ) → Among Y l → f Y ≡ Accepted
+unfolding firstIn
+in-each [] f e Y h = absurd h
+in-each (X ∷ l) f e Y h =
+    ⊎-elim (λ q. ap f q ∙ or-accepted (f X) (firstIn l f) e .0) (in-each l f (or-accepted (f X) (firstIn l f) e .1) Y) h
+
+pub in-all : (l : List ℕ) (f : ℕ → Verdict) → ((Y : ℕ) → Among Y l → f Y ≡ Accepted) → firstIn l f ≡ Accepted
+unfolding firstIn
+in-all [] f h = refl
+in-all (X ∷ l) f h = or-both (f X) (firstIn l f) (h X (inl refl)) (in-all l f (λ Y k. h Y (inr k)))
+
+pub record StopIn (l : List ℕ) (f : ℕ → Verdict) (b : Breach) : Type 0 where
+  pub before : List ℕ
+  pub element : ℕ
+  pub after : List ℕ
+  pub split : l ≡ before ++ (element ∷ after)
+  pub there : f element ≡ Broken b
+  pub earlier : (Y : ℕ) → Among Y before → f Y ≡ Accepted
+
+pub in-stop : (l : List ℕ) (f : ℕ → Verdict) (b : Breach) → firstIn l f ≡ Broken b → StopIn l f b
+unfolding firstIn
+in-stop [] f b e = absurd (broken-accepted (sym e))
+in-stop (X ∷ l) f b e =
+    ⊎-elim (λ h. record { before = []; element = X; after = l; split = refl; there = h; earlier = λ Y k. absurd k })
+    (λ h. let s = in-stop l f b (h .1) in record {
+      before = X ∷ s .before;
+      element = s .element;
+      after = s .after;
+      split = ap (λ (r : List ℕ). X ∷ r) (s .split);
+      there = s .there;
+      earlier = λ Y k. ⊎-elim (λ q. ap f q ∙ h .0) (s .earlier Y) k;
+    })
+    (or-broken (f X) (firstIn l f) b e)
+
+pub in-decided : (l : List ℕ) (f : ℕ → Verdict) → ((Y : ℕ) → Decided (f Y)) → Decided (firstIn l f)
+unfolding firstIn
+in-decided [] f d = tt
+in-decided (X ∷ l) f d = or-decided (f X) (firstIn l f) (d X) (in-decided l f d)

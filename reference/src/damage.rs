@@ -1,0 +1,185 @@
+//! Texts damaged line by line.
+
+use crate::generate::Draft;
+use crate::read::MAX_TEXT;
+use crate::rng::Rng;
+
+/// The key of a line, as far as it has one.
+fn key(line: &[u8]) -> &[u8] {
+    &line[..line.iter().position(|&b| b == b'=').unwrap_or(line.len())]
+}
+
+/// Where the lines lie, without byte 10.
+fn lines(text: &[u8]) -> Vec<(usize, usize)> {
+    let mut list = vec![];
+    let mut start = 0;
+    for (i, &b) in text.iter().enumerate() {
+        if b == 10 {
+            list.push((start, i));
+            start = i + 1;
+        }
+    }
+    list
+}
+
+/// One damage to one line, each kind of line alike often.
+pub fn damage(r: &mut Rng, d: &Draft, text: &mut Vec<u8>) {
+    let all = lines(text);
+    if all.is_empty() {
+        return;
+    }
+    let mut keys: Vec<&[u8]> = all.iter().map(|&(s, e)| key(&text[s..e])).collect();
+    keys.sort();
+    keys.dedup();
+    let wanted = *r.pick(&keys);
+    let with: Vec<usize> = (0..all.len()).filter(|&i| key(&text[all[i].0..all[i].1]) == wanted).collect();
+    let at = *r.pick(&with);
+    let (start, end) = all[at];
+    let line = text[start..end].to_vec();
+    let special = if r.percent(60) { special(r, d, text, &line, at) } else { None };
+    match special {
+        Some(new) => drop(text.splice(start..end, new)),
+        None => general(r, text, start, end, all.get(at + 1).copied()),
+    }
+}
+
+/// A damage that suits the field: out of range, beyond the count, a name twice, and near misses of the layout.
+fn special(r: &mut Rng, d: &Draft, text: &[u8], line: &[u8], at: usize) -> Option<Vec<u8>> {
+    let (n, m) = (d.plan.n as usize, d.plan.m as usize);
+    let key = String::from_utf8(key(line).to_vec()).ok()?;
+    let rest = String::from_utf8(line.get(key.len() + 1..)?.to_vec()).ok()?;
+    let number = |r: &mut Rng, limit: usize| match r.below(12) {
+        0..=3 => format!("{}", limit + r.below(3)),
+        4 => "9999".to_string(),
+        5 => format!("{}", r.range(100, 9999)),
+        6 => format!("0{}", r.below(10)),
+        7 => format!("{}", r.range(10_000, 99_999)),
+        8 => String::new(),
+        9 => format!("{}{}", r.pick(&["+", "-", " ", "0x"]), r.below(4)),
+        10 => format!("{}{}", r.below(4), r.pick(&["a", " ", ".", ",", ",0"])),
+        _ => "18446744073709551617".to_string(),
+    };
+    let mask = |r: &mut Rng, digits: usize, count: usize| match r.below(9) {
+        0..=3 if count < 4 * digits => format!("{:0digits$x}", 1u64 << r.range(count, 4 * digits - 1)),
+        4 => rest.replace('0', "A"),
+        5 => rest[1..].to_string(),
+        6 => format!("0{rest}"),
+        7 => format!("{}{}", r.pick(&["g", "F", "+", "x", " "]), &rest[1..]),
+        8 if count < 4 * digits => format!("{}{}", &format!("{:0digits$x}", 1u64 << count)[1..], r.pick(&["", "g", "00"])),
+        _ => format!("0x{}", &rest[2..]),
+    };
+    let new = match key.as_str() {
+        "templates" => match r.below(4) {
+            0 => "0".to_string(),
+            1 => format!("{}", r.range(1, 64)),
+            _ => number(r, 65),
+        },
+        "identifiers" => match r.below(3) {
+            0 => format!("{}", r.range(0, m)),
+            _ => number(r, 33),
+        },
+        "assertions" => match r.below(3) {
+            0 => format!("{}", r.range(0, 32)),
+            _ => number(r, 33),
+        },
+        "source" | "sink" | "anc" => number(r, n),
+        "form" => {
+            let mut end = |limit: usize| if r.percent(50) { format!("{}", r.below(n)) } else { number(r, limit) };
+            let (y, z) = (end(n), end(n));
+            match r.below(12) {
+                0..=2 => format!("go:{y}"),
+                3..=4 => format!("either:{y},{z}"),
+                5..=6 => format!("both:{y},{z}"),
+                7 => format!("either:{y}"),
+                8 => format!("go:{y},{z}"),
+                9 => format!("both:{y},{z},{y}"),
+                10 => (*r.pick(&["end:", "End", "", "go", "go:", "both:,", "stop", "either:0;0", "both: 0,0", "end "])).to_string(),
+                _ => format!("{rest}{}", r.pick(&[" ", ",", ":", "0000"])),
+            }
+        }
+        "name" => match r.below(7) {
+            0..=2 => {
+                // a name that stood earlier, if there is one
+                let earlier: Vec<(usize, usize)> = lines(text)[..at]
+                    .iter()
+                    .copied()
+                    .filter(|&(s, e)| text[s..e].starts_with(b"name="))
+                    .collect();
+                if earlier.is_empty() {
+                    return None;
+                }
+                let &(s, e) = r.pick(&earlier);
+                String::from_utf8(text[s + 5..e].to_vec()).ok()?
+            }
+            3 => String::new(),
+            4 => "abcdefghijklmnop7"[r.below(2)..].to_string(),
+            5 => format!("{rest}{}", r.pick(&["_", "-", "A", " ", "."])),
+            _ => rest.to_uppercase(),
+        },
+        "lab" | "pos" | "neg" | "creates" => mask(r, 8, m),
+        "risk" => (*r.pick(&["2", "", "00", "01", "10", "true", " 1", "9", "-1"])).to_string(),
+        "kind" => (*r.pick(&["clean", "Secrecy", "secrec", "secrecyy", "prot ", "pro", "prott", "", "PROT", "secrecy=prot"])).to_string(),
+        "declass" => match r.below(2) {
+            0 => {
+                let place = at.checked_sub(5)? / 5;
+                let a = d.policy.get(place)?;
+                let beside = if r.percent(20) && n < 64 { 1u64 << n } else { 0 };
+                let own = *r.pick(&[1u64 << a.source, 1 << a.sink, 1 << a.source | 1 << a.sink]);
+                format!("{:016x}", a.declass | own | beside)
+            }
+            _ => mask(r, 16, n),
+        },
+        _ => return None,
+    };
+    Some(format!("{key}={new}").into_bytes())
+}
+
+fn general(r: &mut Rng, text: &mut Vec<u8>, start: usize, end: usize, next: Option<(usize, usize)>) {
+    let line = text[start..end].to_vec();
+    let inside = if line.is_empty() { start } else { r.range(start, end - 1) };
+    let odd = *r.pick(&[b' ', b'\r', b'\t', 0, b'0', b'x', b'=', 0x80, 0xff, b'A', b':', b',']);
+    let equals = line.iter().position(|&b| b == b'=').map(|i| start + i);
+    match r.below(18) {
+        0 => drop(text.drain(start..=end)),
+        1 => drop(text.splice(start..start, [&line[..], b"\n"].concat())),
+        2 => drop(text.drain(start..end)),
+        3 => text.truncate(start),
+        4 => text.truncate(end),
+        5 => text.truncate(inside),
+        6 => drop(text.remove(end)),
+        7 => text.insert(end, odd),
+        8 => text.insert(inside, odd),
+        9 if !line.is_empty() => drop(text.remove(inside)),
+        10 => text[inside] = odd,
+        11 => text[start] = text[start].to_ascii_uppercase(),
+        12 if equals.is_some() => text[equals.unwrap()] = *r.pick(b": -"),
+        13 if equals.is_some() => drop(text.remove(equals.unwrap())),
+        14 => text.insert(start, b'\n'),
+        15 if next.is_some() => {
+            let (s, e) = next.unwrap();
+            let swapped = [&text[s..e], b"\n", &line[..]].concat();
+            drop(text.splice(start..e, swapped));
+        }
+        16 => {
+            // extra bytes at the text's end
+            text.extend_from_slice(*r.pick(&[&b"\n"[..], b" ", b"risk=0\n", b"kind=prot\n", b"\0", b"x\ny\n"]));
+        }
+        _ => {
+            let other = r.pick(&[&b"label"[..], b"Name", b"sourc", b"x", b""]).to_vec();
+            drop(text.splice(start..equals.unwrap_or(end), other));
+        }
+    }
+}
+
+/// More than 16,384 bytes, whatever they are.
+pub fn too_long(r: &mut Rng, text: &mut Vec<u8>) {
+    let length = if r.percent(80) { MAX_TEXT + 1 } else { MAX_TEXT + r.range(2, 40) };
+    let filling = *r.pick(&[&b"\n"[..], b"x", b"risk=0\n", b"name=a0\nform=end\n", b"\0"]);
+    if r.percent(30) {
+        text.clear();
+    }
+    while text.len() < length {
+        text.extend_from_slice(filling);
+    }
+    text.truncate(length);
+}
