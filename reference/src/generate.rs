@@ -40,6 +40,24 @@ impl Draft {
         }
     }
 
+    /// A plan that needs its Declass: `maker` makes the identifier, `speaker` (the Source) tells `gate`, which may drop
+    /// the identifier by `wash` or by itself and goes on to `hearer` (the Sink).
+    pub fn gate() -> Draft {
+        let row = |form, lab, pos, neg, creates, risk| Template { form, lab, pos, neg, creates, risk };
+        let mut templates = [BLANK; MAX_TEMPLATES];
+        templates[0] = row(Form::Both(1, 5), 0, 0, 0, 0, false);
+        templates[1] = row(Form::Both(2, 3), 1, 1, 1, 1, false);
+        templates[2] = row(Form::End, 1, 0, 0, 0, true);
+        templates[3] = row(Form::Both(3, 4), 1, 1, 1, 0, true);
+        templates[4] = row(Form::Go(5), 0, 0, 1, 0, false);
+        templates[5] = row(Form::Go(5), 0, 0, 0, 0, true);
+        Draft {
+            names: ["boot", "maker", "speaker", "gate", "wash", "hearer"].map(String::from).to_vec(),
+            plan: Plan { n: 6, m: 1, templates },
+            policy: vec![Assertion { kind: Kind::Secrecy, source: 2, sink: 5, anc: 5, declass: 26 }],
+        }
+    }
+
     pub fn plan_text(&self) -> Vec<u8> {
         let mut out = format!("templates={}\nidentifiers={}\n", self.plan.n, self.plan.m);
         for (name, t) in self.names.iter().zip(self.plan.used()) {
@@ -136,11 +154,16 @@ impl Draft {
         r.below(n)
     }
 
-    /// Up to `count` assertions that hold.
+    /// Up to `count` assertions that hold; half of the time secrecies that hold only by their Declass, if there are any.
     pub fn add_holding(&mut self, r: &mut Rng, count: usize) {
-        for _ in 0..8 * count {
+        let strict = r.percent(50);
+        for tried in 0..16 * count {
             let a = self.random_assertion(r);
-            if self.policy.len() < count && assertion(&self.plan, 0, &a).is_none() {
+            let wanted = !strict || tried >= 8 * count || {
+                let bare = Assertion { declass: 0, ..a };
+                a.kind == Kind::Secrecy && assertion(&self.plan, 0, &bare).is_some()
+            };
+            if self.policy.len() < count && wanted && assertion(&self.plan, 0, &a).is_none() {
                 self.policy.push(a);
             }
         }
@@ -184,11 +207,15 @@ impl Draft {
             0..=2 => 1,
             3..=49 => r.range(2, 4),
             50..=96 => r.range(5, 8),
-            _ => r.range(9, 12),
+            _ => r.range(9, 24),
         };
         let m = *r.pick(&[0, 1, 1, 1, 2, 2, 3, 3, 4, 6]);
         let m = if r.percent(2) { r.range(7, 32) } else { m };
-        let mut d = if r.percent(12) { Draft::base() } else { Draft::random(r, n, m) };
+        let mut d = match r.below(100) {
+            0..=9 => Draft::base(),
+            10..=17 => Draft::gate(),
+            _ => Draft::random(r, n, m),
+        };
         let count = *r.pick(&[0, 1, 1, 1, 2, 2, 3, 4]);
         match r.below(10) {
             0..=2 => d.add_holding(r, count),
@@ -404,4 +431,79 @@ fn step_call(r: &mut Rng, s: &State, serial: u32) -> Call {
         _ => 0,
     };
     Call::Step(serial, branch)
+}
+
+/// A hand-made state over the plan that is not bad, often at a limit; unused places hold anything.
+pub fn state(r: &mut Rng, plan: &Plan) -> State {
+    let mut s = machine::started(*plan);
+    let within = |r: &mut Rng| if plan.m == 0 { 0 } else { r.next() as u32 >> (32 - plan.m) };
+    s.next = match r.below(4) {
+        0 => machine::MAX_NEXT - r.below(4) as u64,
+        1 => r.range(0, 200) as u64,
+        2 => r.range(128, 1_000_000) as u64,
+        _ => r.next() >> 32,
+    };
+    s.live = (*r.pick(&[0, 1, 2, 3, 16, 63, 126, 127, 128, 128])).min(s.next) as u32;
+    let mut below = s.next;
+    for p in 0..MAX_LIVE {
+        s.serials[p] = r.next() as u32;
+        s.templates[p] = if p < s.live as usize { r.below(plan.n as usize) as u8 } else { r.next() as u8 };
+        let own = s.templates[p] as usize;
+        s.labels[p] = match r.below(3) {
+            _ if p >= s.live as usize => r.next() as u32,
+            0 => within(r),
+            _ => plan.templates[own].lab,
+        };
+        for i in 0..MAX_IDENTIFIERS {
+            let few = s.next.min(3);
+            s.tags[32 * p + i] = match r.below(4) {
+                _ if p >= s.live as usize || i >= plan.m as usize => r.next() as u32,
+                0 => (r.next() % s.next) as u32,
+                1 => (s.next - 1) as u32,
+                _ => (r.next() % few) as u32,
+            };
+        }
+    }
+    for p in (0..s.live as usize).rev() {
+        let gap = if below > p as u64 + 1 && r.percent(50) { r.next() % (below - p as u64).min(9) } else { 0 };
+        below -= 1 + gap;
+        s.serials[p] = below as u32;
+    }
+    s
+}
+
+/// Makes the state bad in one way; the ways that document 01 lists under 20.
+pub fn spoil(r: &mut Rng, s: &mut State) {
+    let good = *s;
+    while !machine::bad(s) {
+        *s = good;
+        let (p, t) = (r.below((s.live as usize).max(1)), r.below(s.plan.n as usize));
+        let (n, m) = (s.plan.n, s.plan.m);
+        let beyond = if m < 32 { 1 << r.range(m as usize, 31) } else { 0 };
+        match r.below(13) {
+            0 => s.plan.n = *r.pick(&[0, 65, 200, u32::MAX]),
+            1 => s.plan.m = *r.pick(&[33, 64, u32::MAX]),
+            2 => s.live = *r.pick(&[129, 256, u32::MAX]),
+            3 => s.templates[p] = r.range(n as usize, 255) as u8,
+            4 => s.plan.templates[t].form = Form::Go(r.range(n as usize, 255) as u8),
+            5 => s.plan.templates[t].form = Form::Both(0, n as u8),
+            6 => s.serials[p] = (s.next as u32).saturating_add(r.below(3) as u32),
+            7 if p > 0 => s.serials[p] = s.serials[p - 1],
+            8 if p > 0 => s.serials.swap(p, p - 1),
+            9 if m > 0 => s.tags[32 * p + r.below(m as usize)] = s.next as u32,
+            10 => s.labels[p] |= beyond,
+            11 => {
+                let t = &mut s.plan.templates[t];
+                let mask = [&mut t.lab, &mut t.pos, &mut t.neg, &mut t.creates];
+                *mask.into_iter().nth(r.below(4)).unwrap() |= beyond;
+            }
+            _ => s.next = if s.live > 0 { s.serials[p] as u64 } else { machine::MAX_NEXT + 1 },
+        }
+    }
+}
+
+/// A call that suits the state.
+pub fn any_call(r: &mut Rng, s: &State) -> Call {
+    let style = *r.pick(&[Style::Normal, Style::Grow, Style::Wild]);
+    next_call(r, s, style)
 }

@@ -6,6 +6,7 @@ pub mod generate;
 pub mod history;
 pub mod judge;
 pub mod machine;
+pub mod near;
 pub mod plan;
 pub mod read;
 pub mod replay;

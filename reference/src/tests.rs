@@ -4,6 +4,7 @@ use crate::generate::*;
 use crate::history::*;
 use crate::judge::*;
 use crate::machine::{self, Answer::*};
+use crate::near;
 use crate::plan::*;
 use crate::read::*;
 use crate::replay::{replay, Call};
@@ -291,4 +292,66 @@ fn by_value_is_the_same() {
         assert_eq!(answer, other);
         assert!(one.same(&two));
     }
+}
+
+/// near.rs repeats rules 17 to 19 with one mistake each: a mistake of prot leaves secrecy as it is and the reverse.
+#[test]
+fn near_misses_are_near() {
+    let mut r = Rng::new(8);
+    for _ in 0..400 {
+        let d = Draft::random(&mut r, 5, 2);
+        for _ in 0..20 {
+            let a = d.random_assertion(&mut r);
+            let elsewhere = match a.kind {
+                Kind::Secrecy => near::Mistake::NotInterleaved,
+                Kind::Prot => near::Mistake::PosSinkForgotten,
+            };
+            assert_eq!(near::assertion(&d.plan, 0, &a, elsewhere), assertion(&d.plan, 0, &a));
+        }
+    }
+}
+
+#[test]
+fn hand_made_states() {
+    let mut r = Rng::new(4);
+    let mut seen = [0; 30];
+    for _ in 0..4_000 {
+        let d = Draft::candidate(&mut r);
+        let mut s = state(&mut r, &d.plan);
+        assert!(!machine::bad(&s));
+        for _ in 0..5 {
+            let before = s;
+            let call = any_call(&mut r, &s);
+            if let Refused(number) = call.run(&mut s) {
+                seen[number as usize] += 1;
+                assert!(s.same(&before));
+            }
+            assert!(!machine::bad(&s));
+        }
+        let call = any_call(&mut r, &s);
+        spoil(&mut r, &mut s);
+        assert_eq!(call.run(&mut s), Refused(20));
+    }
+    assert!(seen[20] == 0 && seen[21..].iter().all(|&count| count > 20), "{seen:?}");
+}
+
+/// A Declass process learns nothing, neither by delivery nor from its parent; it knows itself.
+#[test]
+fn declass_learns_nothing() {
+    let d = Draft::gate();
+    assert_eq!(verdict(&d), Verdict::Accepted);
+    // maker 1, hearer 2; speaker 3, gate 4; gate 4 hears 3, drops its label and tells 2; then 5 gate, 6 wash, 7 hearer
+    let list = [
+        Call::Step(0, 0), Call::Step(1, 0), Call::Send(3, 4), Call::Step(4, 0), Call::Send(3, 5),
+        Call::Lower(5, 0), Call::Send(5, 2), Call::Step(6, 0),
+    ];
+    let (answers, _, breach) = promise(&d.plan, &d.policy, &list, 1);
+    assert_eq!(answers, [Done, Done, Delivered, Done, Delivered, Done, Delivered, Done]);
+    assert_eq!(breach, None);
+    let mut h = History::new(&d.plan, &d.policy);
+    list.iter().zip(answers).for_each(|(&call, answer)| h.record(call, answer));
+    let known = |serial: usize| h.knows[0][serial].iter().copied().collect::<Vec<_>>();
+    assert_eq!(known(3), [1, 3]); // its parent, a Declass, knew itself and not serial 0
+    assert_eq!((known(4), known(5), known(6)), (vec![4], vec![5], vec![6]));
+    assert_eq!(known(7), [6, 7]);
 }

@@ -13,9 +13,10 @@ use Rattle.rules.specs.Rules.{wearable}
 use Rattle.rules.specs.Judge.{orElse, firstBelow, firstIn, lowestOffender, creator, nextCreator, check11, checkEdge, checkEdges, serves, checkProt, checkAssertion, checkAssertions, judgeRead, afterReading, judge, report}
 use Rattle.machine.specs.Machine.{tag, refuseIf, ifDone, templateFits, planFits, processFits, rising, populationFits, wellFormed, find, remove, branchFits, children, mayBecome, child, spawn, stepAnswer, stepped, settled, stepBy, passes, sendBy, moveAnswer, relabel, moved, raiseBy, lowerBy, answerTo, run, root, start}
 use Rattle.machine.specs.State.{placed, processesOf, machineFrom, machineOf, startOn, started}
+use Rattle.promise.specs.Replay.{machineAfter}
 use Rattle.cases.specs.Base.{text, basePlan, basePolicy, changed, withProt, planD, planE, fullPlan}
-use Rattle.cases.specs.Rows.{Question, Reply, Row, reply, afterCalls, box, left, rows}
+use Rattle.cases.specs.Rows.{Question, Reply, Row, reply, box, left, rows}
 
 pub cases : map (λ (r : Row). reply (r .asked)) rows ≡ map (λ (r : Row). r .told) rows
-unfolding every any lowest tabulate all has within without plus at assertionAt successors creates both either chosen including collect only meet enterAll isOpen enter reach ways targets holds passesWay crosses branchesCross forkCrosses leads anyIn sharesTag splitsTag before startsWith same standsIn andThen digit digits decimal number templateNumber mask nameByte name pair form risk kind misplaced declass field settle line entry entries plan assertion assertions policy closed checked ifComplete readPlan readPolicy wearable orElse firstBelow firstIn lowestOffender creator nextCreator check11 checkEdge checkEdges serves checkProt checkAssertion checkAssertions judgeRead afterReading judge report tag refuseIf ifDone templateFits planFits processFits rising populationFits wellFormed find remove branchFits children mayBecome child spawn stepAnswer stepped settled stepBy passes sendBy moveAnswer relabel moved raiseBy lowerBy answerTo run root start placed processesOf machineFrom machineOf startOn started text basePlan basePolicy changed withProt planD planE fullPlan reply afterCalls box left rows
+unfolding every any lowest tabulate all has within without plus at assertionAt successors creates both either chosen including collect only meet enterAll isOpen enter reach ways targets holds passesWay crosses branchesCross forkCrosses leads anyIn sharesTag splitsTag before startsWith same standsIn andThen digit digits decimal number templateNumber mask nameByte name pair form risk kind misplaced declass field settle line entry entries plan assertion assertions policy closed checked ifComplete readPlan readPolicy wearable orElse firstBelow firstIn lowestOffender creator nextCreator check11 checkEdge checkEdges serves checkProt checkAssertion checkAssertions judgeRead afterReading judge report tag refuseIf ifDone templateFits planFits processFits rising populationFits wellFormed find remove branchFits children mayBecome child spawn stepAnswer stepped settled stepBy passes sendBy moveAnswer relabel moved raiseBy lowerBy answerTo run root start placed processesOf machineFrom machineOf startOn started text basePlan basePolicy changed withProt planD planE fullPlan reply machineAfter box left rows
 cases = refl

@@ -10,6 +10,7 @@ use Rattle.machine.specs.declared.Answer.{Answer}
 use Rattle.machine.specs.declared.Answer.the-variants.{Done, Delivered, Held, Refused}
 use Rattle.machine.specs.Machine.{Process, Machine, boxLimits, Call, step, send, raise, run}
 use Rattle.machine.specs.State.{started}
+use Rattle.promise.specs.Replay.{machineAfter}
 use Rattle.cases.specs.Base.{text, basePlan, basePolicy, changed, withProt, planD, planE, fullPlan}
 
 -- What is asked: the verdict on two texts, the answer to a call after a list of calls from the started base box, what
@@ -28,12 +29,8 @@ pub data Reply : Type 0 where
   leaves : ℕ → List ℕ → List ℕ → Reply
   reads : Reading → Reply
 
-unfoldable pub afterCalls : Machine → List Call → Machine
-afterCalls m [] = m
-afterCalls m (call ∷ rest) = afterCalls (run boxLimits m call .machine) rest
-
 unfoldable pub box : List Call → Machine
-box calls = afterCalls (started (text basePlan) (text basePolicy)) calls
+box calls = machineAfter boxLimits (started (text basePlan) (text basePolicy)) calls
 
 unfoldable pub left : Machine → Reply
 left m = leaves (m .next) (map (λ (p : Process). p .serial) (m .live)) (map (λ (p : Process). p .template) (m .live))

@@ -8,7 +8,11 @@ use mathlib.Core.List.{List, [], _∷_, _++_}
 use native.Mathlib.Nat.{not-suc-le-zero, le-of-suc-le-suc, zero-lt-suc, eq-or-lt-of-le}
 use native.Mathlib.Numerals.{add-one}
 use native.Mathlib.Omega.{arith}
+use mir.Syntax.{w8}
+use mir.Val.{Fits}
+use Rattle.plan.specs.declared.Plan.{Plan}
 use Rattle.plan.specs.Plan.{Among}
+use Rattle.plan.specs.Range.{InRange}
 use Rattle.rules.specs.Judge.{Fault, Breach, Verdict, Accepted, Broken, Unread, orElse, firstBelow, firstIn}
 use Rattle.rules.specs.Broken.{accepted}
 
@@ -218,3 +222,8 @@ pub in-decided : (l : List ℕ) (f : ℕ → Verdict) → ((Y : ℕ) → Decided
 unfolding firstIn
 in-decided [] f d = tt
 in-decided (X ∷ l) f d = or-decided (f X) (firstIn l f) (d X) (in-decided l f d)
+
+-- ---- a loop over templates counts in a byte
+
+pub count-fits : (plan : Plan) → InRange plan → Fits w8 (plan .count)
+count-fits plan range = let l = range .templates in omega arith

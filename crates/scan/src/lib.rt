@@ -1,1 +1,44 @@
-// Bytes of a lent text: looking for one, comparing some; so far their definitions.
+// Bytes of a lent text: looking for one, comparing some.
+ghost use mathlib.Core.Path.{_≡_};
+ghost use Rattle.scan.specs.Bytes.{before, startsWith, same};
+
+// How many bytes of s stand before the first b; all of them where there is none.
+pub fn find(s: &[u8], b: u8) -> usize
+    ensures { λ r. ⌜ r ≡ before b (now (s .entry)) ⌝ }
+{
+    let mut i = 0;
+    while i < s.len() {
+        if s[i] == b {
+            return i;
+        }
+        i += 1;
+    }
+    i
+}
+
+// Whether s begins with the bytes of the key.
+pub fn starts_with(s: &[u8], key: &[u8]) -> bool
+    ensures { λ r. ⌜ r ≡ startsWith (now (key .entry)) (now (s .entry)) ⌝ }
+{
+    if s.len() < key.len() {
+        return false;
+    }
+    let mut i = 0;
+    while i < key.len() {
+        if s[i] != key[i] {
+            return false;
+        }
+        i += 1;
+    }
+    true
+}
+
+// Whether s and t are the same, byte for byte.
+pub fn same_bytes(s: &[u8], t: &[u8]) -> bool
+    ensures { λ r. ⌜ r ≡ same (now (s .entry)) (now (t .entry)) ⌝ }
+{
+    if s.len() != t.len() {
+        return false;
+    }
+    starts_with(s, t)
+}

@@ -1,6 +1,23 @@
-// The answers of reading; so far their types and the definitions of reading.
+// The lines of the two texts. A reader takes the text and a position, and gives the line's value and the next position.
+// Once a line is refused the position stays there: later lines are not looked at, and what they give is blank.
+use field::FormField;
+use field::KindField;
+use field::NumberField;
+use field::RiskField;
+use plan::Form;
+use plan::Kind;
 use plan::Plan;
 use plan::Policy;
+ghost use mathlib.Core.Path.{_≡_};
+ghost use Prim.Native.Nat.{_≤_, _-_};
+ghost use mathlib.Core.Bool.{false};
+ghost use mathlib.Core.List.{[]};
+ghost use lib.ListN.{length};
+ghost use Rattle.plan.specs.declared.Form.the-variants.{End};
+ghost use Rattle.plan.specs.declared.Kind.the-variants.{Secrecy};
+ghost use Rattle.scan.specs.Bytes.{bytes, standsIn};
+ghost use Rattle.field.specs.Fields.{number, mask as maskOf, name, form, risk, kind as kindWord, declass as declassOf};
+ghost use Rattle.text.specs.Cursors.{part, cursorOf, Standing, stepOf, spanOf, opened, keyed, openedOf, Within, namesOf, Remembered};
 
 // Document 01's number and line of a refused text.
 pub struct Refusal {
@@ -23,4 +40,314 @@ pub struct PlanRead {
 pub struct PolicyRead {
     pub answer: Reading,
     pub policy: Policy,
+}
+
+// Where reading stands: the start of a line and its number, or the refusal's number and line.
+pub enum Position {
+    On(usize, u32),
+    Stopped(u8, u32),
+}
+
+// Where the field of a line starts and ends.
+pub enum Span {
+    At(usize, usize),
+    Missing,
+}
+
+// The field of the first line of a text, after its key: read from the rest of the line, without byte 10.
+fn read_field(rest: &[u8], key: &[u8]) -> Span
+    ensures { λ r. ⌜ r ≡ spanOf (now (key .entry)) (now (rest .entry)) ⌝ }
+{
+    let end = scan::find(rest, b'\n');
+    if rest.len() <= end {
+        return Span::Missing;
+    }
+    if scan::starts_with(&rest[0..end], key) {
+        return Span::At(key.len(), end);
+    }
+    Span::Missing
+}
+
+// A line that has its key: where its field starts and ends in the text, and the line's number. Or where reading stands
+// without it.
+pub enum Line {
+    Open(usize, usize, u32),
+    Closed(Position),
+}
+
+fn open_line(text: &[u8], from: Position, key: &[u8]) -> Line
+    requires { ⌜ Standing (now text) from ⌝ }
+    ensures { λ r. ⌜ openedOf (now (text .entry)) r ≡ opened (now (key .entry)) (cursorOf (now (text .entry)) from) ⌝ }
+    ensures room { λ r. ⌜ Within (now (text .entry)) r ⌝ }
+{
+    match from {
+        Position::Stopped(number, line) => Line::Closed(Position::Stopped(number, line)),
+        Position::On(at, line) => match read_field(&text[at..], key) {
+            Span::Missing => Line::Closed(Position::Stopped(field::LAYOUT, line)),
+            Span::At(start, end) => Line::Open(at + start, at + end, line),
+        },
+    }
+}
+
+pub struct NumberLine {
+    pub value: u8,
+    pub next: Position,
+}
+
+// A line with a count or a template number, from low on and below the limit; out of range it is refused with the given
+// number.
+pub fn number_line(
+    text: &[u8],
+    from: Position,
+    key: &[u8],
+    refusal: u8,
+    low: u8,
+    limit: u8,
+) -> NumberLine
+    requires { ⌜ Standing (now text) from ⌝ }
+    ensures { λ r. ⌜ stepOf (now (text .entry)) (r .value) (r .next) ≡ keyed 0 (now (key .entry)) (number refusal low limit) (cursorOf (now (text .entry)) from) ⌝ }
+    ensures room { λ r. ⌜ Standing (now (text .entry)) (r .next) ⌝ }
+    ensures range { λ r. ⌜ r .value ≤ limit - 1 ⌝ }
+{
+    match open_line(text, from, key) {
+        Line::Closed(next) => NumberLine { value: 0, next },
+        Line::Open(start, end, line) => match field::read_number(
+            &text[start..end],
+            refusal,
+            low,
+            limit,
+        ) {
+            NumberField::Bad(number) => NumberLine {
+                value: 0,
+                next: Position::Stopped(number, line),
+            },
+            NumberField::Is(v) => NumberLine {
+                value: v as u8,
+                next: Position::On(end + 1, line + 1),
+            },
+        },
+    }
+}
+
+pub struct MaskLine {
+    pub value: u32,
+    pub next: Position,
+}
+
+// A line with a mask of eight digits over so many identifiers.
+pub fn mask_line(text: &[u8], from: Position, key: &[u8], items: u8) -> MaskLine
+    requires { ⌜ Standing (now text) from × (items ≤ 32) ⌝ }
+    ensures { λ r. ⌜ stepOf (now (text .entry)) (r .value) (r .next) ≡ keyed 0 (now (key .entry)) (maskOf 8 items) (cursorOf (now (text .entry)) from) ⌝ }
+    ensures room { λ r. ⌜ Standing (now (text .entry)) (r .next) ⌝ }
+{
+    match open_line(text, from, key) {
+        Line::Closed(next) => MaskLine { value: 0, next },
+        Line::Open(start, end, line) => match field::read_mask(&text[start..end], 8, items) {
+            NumberField::Bad(number) => MaskLine {
+                value: 0,
+                next: Position::Stopped(number, line),
+            },
+            NumberField::Is(m) => MaskLine {
+                value: m as u32,
+                next: Position::On(end + 1, line + 1),
+            },
+        },
+    }
+}
+
+pub struct FormLine {
+    pub value: Form,
+    pub next: Position,
+}
+
+// The `form=` line of a plan with n templates.
+pub fn form_line(text: &[u8], from: Position, n: u8) -> FormLine
+    requires { ⌜ Standing (now text) from ⌝ }
+    ensures { λ r. ⌜ stepOf (now (text .entry)) (r .value) (r .next) ≡ keyed End (bytes "form=") (form n) (cursorOf (now (text .entry)) from) ⌝ }
+    ensures room { λ r. ⌜ Standing (now (text .entry)) (r .next) ⌝ }
+{
+    match open_line(text, from, b"form=") {
+        Line::Closed(next) => FormLine {
+            value: Form::End,
+            next,
+        },
+        Line::Open(start, end, line) => match field::read_form(&text[start..end], n) {
+            FormField::Bad(number) => FormLine {
+                value: Form::End,
+                next: Position::Stopped(number, line),
+            },
+            FormField::Is(f) => FormLine {
+                value: f,
+                next: Position::On(end + 1, line + 1),
+            },
+        },
+    }
+}
+
+pub struct RiskLine {
+    pub value: bool,
+    pub next: Position,
+}
+
+// The `risk=` line.
+pub fn risk_line(text: &[u8], from: Position) -> RiskLine
+    requires { ⌜ Standing (now text) from ⌝ }
+    ensures { λ r. ⌜ stepOf (now (text .entry)) (r .value) (r .next) ≡ keyed false (bytes "risk=") risk (cursorOf (now (text .entry)) from) ⌝ }
+    ensures room { λ r. ⌜ Standing (now (text .entry)) (r .next) ⌝ }
+{
+    match open_line(text, from, b"risk=") {
+        Line::Closed(next) => RiskLine { value: false, next },
+        Line::Open(start, end, line) => match field::read_risk(&text[start..end]) {
+            RiskField::Bad(number) => RiskLine {
+                value: false,
+                next: Position::Stopped(number, line),
+            },
+            RiskField::Is(b) => RiskLine {
+                value: b,
+                next: Position::On(end + 1, line + 1),
+            },
+        },
+    }
+}
+
+pub struct KindLine {
+    pub value: Kind,
+    pub next: Position,
+}
+
+// The `kind=` line.
+pub fn kind_line(text: &[u8], from: Position) -> KindLine
+    requires { ⌜ Standing (now text) from ⌝ }
+    ensures { λ r. ⌜ stepOf (now (text .entry)) (r .value) (r .next) ≡ keyed Secrecy (bytes "kind=") kindWord (cursorOf (now (text .entry)) from) ⌝ }
+    ensures room { λ r. ⌜ Standing (now (text .entry)) (r .next) ⌝ }
+{
+    match open_line(text, from, b"kind=") {
+        Line::Closed(next) => KindLine {
+            value: Kind::Secrecy,
+            next,
+        },
+        Line::Open(start, end, line) => match field::read_kind(&text[start..end]) {
+            KindField::Bad(number) => KindLine {
+                value: Kind::Secrecy,
+                next: Position::Stopped(number, line),
+            },
+            KindField::Is(k) => KindLine {
+                value: k,
+                next: Position::On(end + 1, line + 1),
+            },
+        },
+    }
+}
+
+pub struct DeclassLine {
+    pub value: u64,
+    pub next: Position,
+}
+
+// The `declass=` line of an assertion of that kind, source and sink, over n templates.
+pub fn declass_line(
+    text: &[u8],
+    from: Position,
+    n: u8,
+    kind: Kind,
+    source: u8,
+    sink: u8,
+) -> DeclassLine
+    requires { ⌜ Standing (now text) from ⌝ }
+    ensures { λ r. ⌜ stepOf (now (text .entry)) (r .value) (r .next) ≡ keyed 0 (bytes "declass=") (declassOf n kind source sink) (cursorOf (now (text .entry)) from) ⌝ }
+    ensures room { λ r. ⌜ Standing (now (text .entry)) (r .next) ⌝ }
+{
+    match open_line(text, from, b"declass=") {
+        Line::Closed(next) => DeclassLine { value: 0, next },
+        Line::Open(start, end, line) => match field::read_declass(
+            &text[start..end],
+            n,
+            kind,
+            source,
+            sink,
+        ) {
+            NumberField::Bad(number) => DeclassLine {
+                value: 0,
+                next: Position::Stopped(number, line),
+            },
+            NumberField::Is(m) => DeclassLine {
+                value: m,
+                next: Position::On(end + 1, line + 1),
+            },
+        },
+    }
+}
+
+// Whether the bytes from start to end are one of the names at the first places of the two rows.
+fn name_stood(
+    text: &[u8],
+    start: usize,
+    end: usize,
+    starts: &[usize],
+    ends: &[usize],
+    count: usize,
+) -> bool
+    requires { ⌜ Remembered (now text) (now starts) (now ends) count × (start ≤ end) × (end ≤ length (now text)) ⌝ }
+    ensures { λ r. ⌜ r ≡ standsIn (part start end (now (text .entry))) (namesOf (now (text .entry)) (now (starts .entry)) (now (ends .entry)) count) ⌝ }
+{
+    let mut j = count;
+    while 0 < j {
+        j -= 1;
+        let a = starts[j];
+        let e = ends[j];
+        if scan::same_bytes(&text[start..end], &text[a..e]) {
+            return true;
+        }
+    }
+    false
+}
+
+// Where the name stands; nowhere if the line is refused.
+pub struct NameLine {
+    pub start: usize,
+    pub end: usize,
+    pub next: Position,
+}
+
+// The `name=` line; the names that stood are at the first places of the two rows.
+pub fn name_line(
+    text: &[u8],
+    from: Position,
+    starts: &[usize],
+    ends: &[usize],
+    count: usize,
+) -> NameLine
+    requires { ⌜ Standing (now text) from × Remembered (now text) (now starts) (now ends) count ⌝ }
+    ensures { λ r. ⌜ stepOf (now (text .entry)) (part (r .start) (r .end) (now (text .entry))) (r .next) ≡ keyed [] (bytes "name=") (name (namesOf (now (text .entry)) (now (starts .entry)) (now (ends .entry)) count)) (cursorOf (now (text .entry)) from) ⌝ }
+    ensures room { λ r. ⌜ Standing (now (text .entry)) (r .next) ⌝ }
+    ensures place { λ r. ⌜ (r .start ≤ r .end) × (r .end ≤ length (now (text .entry))) ⌝ }
+{
+    match open_line(text, from, b"name=") {
+        Line::Closed(next) => NameLine {
+            start: 0,
+            end: 0,
+            next,
+        },
+        Line::Open(start, end, line) => {
+            if !field::is_name(&text[start..end]) {
+                return NameLine {
+                    start: 0,
+                    end: 0,
+                    next: Position::Stopped(field::LAYOUT, line),
+                };
+            }
+            if name_stood(text, start, end, starts, ends, count) {
+                return NameLine {
+                    start: 0,
+                    end: 0,
+                    next: Position::Stopped(field::STOOD, line),
+                };
+            }
+            NameLine {
+                start,
+                end,
+                next: Position::On(end + 1, line + 1),
+            }
+        }
+    }
 }

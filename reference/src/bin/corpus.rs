@@ -5,9 +5,10 @@
 use reference::damage::{damage, too_long};
 use reference::generate::{calls, Draft, Style};
 use reference::history::promise;
-use reference::judge::{first_broken, judge, locate, read, show, Broken, Text, Verdict};
+use reference::judge::{assertion, first_broken, judge, locate, read, show, Broken, Text, Verdict};
 use reference::machine::Answer;
-use reference::plan::{has, Form, Kind};
+use reference::near;
+use reference::plan::{has, Assertion, Form, Kind};
 use reference::read::MAX_TEXT;
 use reference::replay::{answer_line, dump, read_calls, replay};
 use reference::rng::Rng;
@@ -271,6 +272,53 @@ fn flavour(d: &Draft, broken: Option<Broken>) -> (usize, usize) {
     }
 }
 
+/// For each mistake in rules 17 to 19 some pairs of one assertion, on which a judge with that mistake is caught:
+/// random assertions first, then for the rarer mistakes all of them on each plan.
+fn near_misses(r: &mut Rng, each: usize) -> Vec<Case> {
+    let mut left: BTreeMap<near::Mistake, usize> = near::ALL.iter().map(|&w| (w, each)).collect();
+    let mut list = vec![];
+    for round in 0..25_000 {
+        if left.is_empty() {
+            break;
+        }
+        let (n, m) = (r.range(3, 6), r.range(1, 2));
+        let mut d = Draft::random(r, n, m);
+        let tried = if round < 5_000 { (0..10).map(|_| d.random_assertion(r)).collect() } else { every_assertion(&d) };
+        for a in tried {
+            let right = assertion(&d.plan, 0, &a);
+            let catches = |w: near::Mistake| near::assertion(&d.plan, 0, &a, w) != right;
+            let caught: Vec<near::Mistake> = left.keys().copied().filter(|&w| catches(w)).collect();
+            for w in &caught {
+                *left.get_mut(w).unwrap() -= 1;
+            }
+            left.retain(|_, count| *count > 0);
+            if !caught.is_empty() {
+                d.policy = vec![a];
+                list.push(Case { plan: d.plan_text(), policy: d.policy_text() });
+            }
+        }
+    }
+    for (w, count) in left {
+        eprintln!("{count:6} pairs too few that catch {w:?}");
+    }
+    list
+}
+
+/// Each source, sink and anc: prot, and secrecy with all other templates in Declass.
+fn every_assertion(d: &Draft) -> Vec<Assertion> {
+    let n = d.plan.n as usize;
+    let mut list = vec![];
+    for i in 0..n * n * n {
+        let (source, sink, anc) = (i / n / n, i / n % n, i % n);
+        let others = ((1u64 << n) - 1) & !(1 << source | 1 << sink);
+        if d.plan.templates[source].lab & d.plan.templates[sink].lab != 0 {
+            list.push(Assertion { kind: Kind::Prot, source, sink, anc, declass: 0 });
+            list.push(Assertion { kind: Kind::Secrecy, source, sink, anc, declass: others });
+        }
+    }
+    list
+}
+
 fn judge_corpus(r: &mut Rng, n: usize, long: usize) -> (Vec<u8>, String, Counts) {
     let mut list = vec![];
     // unread: 40 of each number of each text
@@ -313,6 +361,7 @@ fn judge_corpus(r: &mut Rng, n: usize, long: usize) -> (Vec<u8>, String, Counts)
             }
         }
     }
+    list.extend(near_misses(r, 8));
     // accepted and rules 11 to 19 in equal shares
     let rest = n - list.len();
     let mut rules: BTreeMap<u8, Buckets<(usize, usize)>> = BTreeMap::new();

@@ -1,0 +1,214 @@
+-- Each way through a reader of names, forms, kinds and declass masks, over plain variables.
+use Prim.Native.Nat.{ℕ, _+_, _-_, _*_, _^_, _≤_, _<_}
+use mathlib.Core.Path.{_≡_, refl, sym, ap, _∙_, subst}
+use mathlib.Core.List.{List, [], _∷_}
+use mathlib.Core.Bool.{Bool, true, false, not, cond, _&&_, _||_}
+use native.Mathlib.Omega.{arith}
+use lib.ListN.{length, getD, take, drop, drop-of-length-le}
+use lib.Dec.{leb, ltb, eqb}
+use lib.Pow.{pow-mono}
+use borrow.Author.Tests.{leb-true, ltb-true, le-leb, lt-leb, lt-ltb, le-ltb, not-true, not-false}
+use Rattle.lists.specs.Numbers.{all}
+use Rattle.mask.specs.Mask.{has}
+use Rattle.plan.specs.declared.Form.{Form}
+use Rattle.plan.specs.declared.Form.the-variants.{Go, Either, Both}
+use Rattle.plan.specs.declared.Kind.{Kind}
+use Rattle.plan.specs.declared.Kind.the-variants.{Secrecy, Prot}
+use Rattle.scan.specs.Bytes.{before}
+use Rattle.scan.proofs.Ways.{told}
+use Rattle.scan.proofs.Parts.{rest-of, first-of}
+use Rattle.scan.proofs.Steps.{at-place}
+use Rattle.field.proofs.Numbers.{decimal-none}
+use Rattle.field.specs.Fields.{Field, is, bad, andThen, digit, digits, decimal, number, templateNumber, mask, nameByte, pair, misplaced, declass}
+use Rattle.field.specs.Answers.{numberOf, pairOf, isName}
+use Rattle.field.specs.declared.NumberField.{NumberField}
+use Rattle.field.specs.declared.NumberField.the-variants.{Is, Bad}
+use Rattle.field.specs.declared.PairField.{PairField}
+use Rattle.field.specs.declared.PairField.the-variants.{Is as IsPair, Bad as BadPair}
+
+-- ---- names
+
+-- A loop over the bytes keeps `all nameByte s ≡ all nameByte (drop i s)`; its turn and its two ends.
+module _ (s : List ℕ) (i : ℕ) (so-far : all nameByte s ≡ all nameByte (drop i s)) where
+  pub names-done : length s ≤ i → true ≡ all nameByte s
+  unfolding all
+  names-done h = sym (so-far ∙ rw (drop-of-length-le s h))
+
+  module _ (t : Bool) (h : i < length s) (q : t ≡ nameByte (getD s i 0)) where
+    pub names-other : not t ≡ true → false ≡ all nameByte s
+    unfolding all
+    names-other e = sym (so-far ∙ rw (at-place s i h, told q (not-true t e), all))
+
+    pub names-on : not t ≡ false → all nameByte s ≡ all nameByte (drop (i + 1) s)
+    unfolding all
+    names-on e = so-far ∙ rw (at-place s i h, told q (not-false t e), all)
+
+module _ (s : List ℕ) where
+  pub name-none : length s ≡ 0 → false ≡ isName s
+  name-none h =
+      let e : length s ≤ 0 = omega arith in
+      simp (le-ltb 0 (length s) e)
+
+  pub name-long : 16 < length s → false ≡ isName s
+  name-long h =
+      let e : 0 < length s = omega arith in
+      simp (lt-ltb 0 (length s) e, lt-leb (length s) 16 h)
+
+  pub name-bytes : (t : Bool) → (length s ≡ 0 → ⊥) → length s ≤ 16 → t ≡ all nameByte s → t ≡ isName s
+  name-bytes t some few e =
+      let k : 0 < length s = omega arith in
+      simp (lt-ltb 0 (length s) k, le-leb (length s) 16 few) e
+
+-- ---- forms
+
+-- The layout of a decimal is its only refusal.
+pub digits-refusal : (base acc : ℕ) (s : List ℕ) (n : ℕ) → digits base acc s ≡ bad n → n ≡ 2
+unfolding digits
+digits-refusal base acc [] n e = let z : _≡_ {A = ℕ} 0 1 = cc in absurd (omega arith)
+digits-refusal base acc (b ∷ s) n e = go (digits-refusal base (acc * base + digit b) s n) (ltb (digit b) base) refl
+  where
+    go : (digits base (acc * base + digit b) s ≡ bad n → n ≡ 2) → (t : Bool) → ltb (digit b) base ≡ t → n ≡ 2
+    go ih true q = ih (rw (q, digits) at e)
+    go ih false q = let h : bad 2 ≡ bad n = rw (q, digits) at e in cc
+
+pub decimal-refusal : (s : List ℕ) (n : ℕ) → decimal s ≡ bad n → n ≡ 2
+unfolding decimal
+decimal-refusal s n e = go (ltb 0 (length s) && (leb (length s) 4 && (eqb (length s) 1 || not (eqb (getD s 0 0) 48)))) e
+  where
+    go : (t : Bool) → cond t (digits 10 0 s) (bad 2) ≡ bad n → n ≡ 2
+    go true q = digits-refusal 10 0 s n q
+    go false q = cc
+
+module _ (f : ℕ → ℕ → Form) (N : ℕ) (s : List ℕ) (c : ℕ) (e : c ≡ before 44 s) where
+  pub pair-none : length s ≤ c → bad 2 ≡ pair N f s
+  unfolding pair andThen
+  pair-none h = go (decimal (take (before 44 s) s)) refl
+    where
+      nothing : decimal (drop (before 44 s + 1) s) ≡ bad 2
+      nothing = ap decimal (drop-of-length-le s {i = before 44 s + 1} (omega (arith, e))) ∙ sym (decimal-none [] refl)
+
+      go : (x : Field ℕ) → decimal (take (before 44 s) s) ≡ x → bad 2 ≡ pair N f s
+      go (is Y) q = rw (q, pair) (rw nothing)
+      go (bad n) q = rw (q, pair) (ap bad (sym (decimal-refusal (take (before 44 s) s) n q)))
+
+  module _ (r : NumberField) (d : numberOf r ≡ decimal (take (c - 0) s)) where
+    pub pair-first : (n : ℕ) → r ≡ Bad n → bad n ≡ pair N f s
+    unfolding pair andThen
+    pair-first n q = rw (← e, ← first-of s c, ← d, q, pair)
+
+    module _ (Y : ℕ) (q : r ≡ Is Y) (u : NumberField) (g : numberOf u ≡ decimal (take (length s - (c + 1)) (drop (c + 1) s))) where
+      pub pair-second : (n : ℕ) → u ≡ Bad n → bad n ≡ pair N f s
+      unfolding pair andThen
+      pair-second n p = rw (← e, ← first-of s c, ← d, q, pair) (rw (← rest-of s (c + 1), ← g, p))
+
+      module _ (Z : ℕ) (p : u ≡ Is Z) where
+        pub pair-low : N ≤ Y → bad 3 ≡ pair N f s
+        unfolding pair andThen
+        pair-low h = rw (← e, ← first-of s c, ← d, q, pair) (rw (← rest-of s (c + 1), ← g, p, le-ltb Y N h))
+
+        pub pair-high : Y < N → N ≤ Z → bad 3 ≡ pair N f s
+        unfolding pair andThen
+        pair-high l h = rw (← e, ← first-of s c, ← d, q, pair) (rw (← rest-of s (c + 1), ← g, p, lt-ltb Y N l, le-ltb Z N h))
+
+        pub pair-is : Y < N → Z < N → is (f Y Z) ≡ pair N f s
+        unfolding pair andThen
+        pair-is l h = rw (← e, ← first-of s c, ← d, q, pair) (rw (← rest-of s (c + 1), ← g, p, lt-ltb Y N l, lt-ltb Z N h))
+
+-- The parts that the code lends for a form's numbers go to the end of the field.
+module _ (N : ℕ) (s : List ℕ) (x : Field Form) where
+  pub after-go : x ≡ andThen (templateNumber N (take (length s - 3) (drop 3 s))) (λ Y. is (Go Y))
+      → x ≡ andThen (templateNumber N (drop 3 s)) (λ Y. is (Go Y))
+  after-go e = rw rest-of at e
+
+  pub after-either : x ≡ pair N (λ Y Z. Either Y Z) (take (length s - 7) (drop 7 s)) → x ≡ pair N (λ Y Z. Either Y Z) (drop 7 s)
+  after-either e = rw rest-of at e
+
+  pub after-both : x ≡ pair N (λ Y Z. Both Y Z) (take (length s - 5) (drop 5 s)) → x ≡ pair N (λ Y Z. Both Y Z) (drop 5 s)
+  after-both e = rw rest-of at e
+
+-- A number that was read is in its range.
+pub number-range : (refusal low limit : ℕ) (s : List ℕ) (v : ℕ) → number refusal low limit s ≡ is v → (low ≤ v) × (v < limit)
+unfolding number andThen
+number-range refusal low limit s v e = outer (decimal s) e
+  where
+    inner : (w : ℕ) (a b : Bool) → leb low w ≡ a → ltb w limit ≡ b → cond (a && b) (is w) (bad refusal) ≡ is v → (low ≤ v) × (v < limit)
+    inner w true true p q h = let i : w ≡ v = cc in omega (arith, leb-true low w p, ltb-true w limit q)
+    inner w true false p q h = let z : _≡_ {A = ℕ} 0 1 = cc in absurd (omega arith)
+    inner w false b p q h = let z : _≡_ {A = ℕ} 0 1 = cc in absurd (omega arith)
+
+    outer : (x : Field ℕ) → andThen x (λ w. cond (leb low w && ltb w limit) (is w) (bad refusal)) ≡ is v → (low ≤ v) × (v < limit)
+    outer (is w) h = inner w (leb low w) (ltb w limit) refl refl h
+    outer (bad n) h = let z : _≡_ {A = ℕ} 0 1 = cc in absurd (omega arith)
+
+module _ (refusal low limit : ℕ) (s : List ℕ) (r : NumberField) (e : numberOf r ≡ number refusal low limit s) (v : ℕ) (h : r ≡ Is v) where
+  pub number-below : v < limit
+  number-below = number-range refusal low limit s v (sym e ∙ ap numberOf h) .1
+
+  pub number-fits : limit < 256 → v < 256
+  number-fits l = omega (arith, number-below)
+
+-- A mask that was read has no item at its limit or past it.
+pub mask-range : (width items : ℕ) (s : List ℕ) (m : ℕ) → mask width items s ≡ is m → m < 2 ^ items
+unfolding mask andThen
+mask-range width items s m e = outer (eqb (length s) width) e
+  where
+    inner : (x : Field ℕ) → andThen x (λ w. cond (ltb w (2 ^ items)) (is w) (bad 4)) ≡ is m → m < 2 ^ items
+    inner (is w) h = test (ltb w (2 ^ items)) refl h
+      where
+        test : (b : Bool) → ltb w (2 ^ items) ≡ b → cond b (is w) (bad 4) ≡ is m → m < 2 ^ items
+        test true p q = let i : w ≡ m = cc in subst (λ (k : ℕ). k < 2 ^ items) i (ltb-true w (2 ^ items) p)
+        test false p q = let z : _≡_ {A = ℕ} 0 1 = cc in absurd (omega arith)
+    inner (bad n) h = let z : _≡_ {A = ℕ} 0 1 = cc in absurd (omega arith)
+
+    outer : (b : Bool) → cond b (andThen (digits 16 0 s) (λ w. cond (ltb w (2 ^ items)) (is w) (bad 4))) (bad 2) ≡ is m → m < 2 ^ items
+    outer true h = inner (digits 16 0 s) h
+    outer false h = let z : _≡_ {A = ℕ} 0 1 = cc in absurd (omega arith)
+
+pub mask-fits : (width items : ℕ) (s : List ℕ) (r : NumberField) → numberOf r ≡ mask width items s → (m : ℕ) → r ≡ Is m → items ≤ 32 → m < 2 ^ 32
+mask-fits width items s r e m h l = omega (arith, mask-range width items s m (sym e ∙ ap numberOf h), pow-mono {i = items} {j = 32} l)
+
+-- What a template number, or a pair, comes to as a form.
+module _ (N : ℕ) (s : List ℕ) (r : NumberField) (e : numberOf r ≡ number 3 0 N s) where
+  pub go-bad : (n : ℕ) → r ≡ Bad n → bad n ≡ andThen (templateNumber N s) (λ Y. is (Go Y))
+  unfolding templateNumber andThen
+  go-bad n h = rw (← e, h)
+
+  pub go-is : (Y : ℕ) → r ≡ Is Y → is (Go Y) ≡ andThen (templateNumber N s) (λ Y. is (Go Y))
+  unfolding templateNumber andThen
+  go-is Y h = rw (← e, h)
+
+module _ (N : ℕ) (s : List ℕ) (r : PairField) (e : (f : ℕ → ℕ → Form) → pairOf f r ≡ pair N f s) where
+  pub paired-bad : (f : ℕ → ℕ → Form) (n : ℕ) → r ≡ BadPair n → bad n ≡ pair N f s
+  paired-bad f n h = sym (ap (pairOf f) h) ∙ e f
+
+  module _ (Y Z : ℕ) (h : r ≡ IsPair Y Z) where
+    pub either-is : is (Either Y Z) ≡ pair N (λ Y Z. Either Y Z) s
+    either-is = sym (ap (pairOf (λ Y Z. Either Y Z)) h) ∙ e (λ Y Z. Either Y Z)
+
+    pub both-is : is (Both Y Z) ≡ pair N (λ Y Z. Both Y Z) s
+    both-is = sym (ap (pairOf (λ Y Z. Both Y Z)) h) ∙ e (λ Y Z. Both Y Z)
+
+-- ---- declass
+
+module _ (k : Kind) (source sink m : ℕ) where
+  pub misplaced-secrecy : (a b : Bool) → k ≡ Secrecy → a ≡ has source m → b ≡ has sink m → (a || b) ≡ misplaced k source sink m
+  unfolding misplaced
+  misplaced-secrecy a b e p q = rw (e, p, q)
+
+  pub misplaced-prot : k ≡ Prot → not (eqb m 0) ≡ misplaced k source sink m
+  unfolding misplaced
+  misplaced-prot e = rw e
+
+module _ (N : ℕ) (k : Kind) (source sink : ℕ) (s : List ℕ) (r : NumberField) (e : numberOf r ≡ mask 16 N s) where
+  pub declass-bad : (n : ℕ) → r ≡ Bad n → bad n ≡ declass N k source sink s
+  unfolding declass andThen
+  declass-bad n h = rw (← e, h, declass)
+
+  module _ (m : ℕ) (h : r ≡ Is m) (t : Bool) (q : t ≡ misplaced k source sink m) where
+    pub declass-misplaced : t ≡ true → bad 6 ≡ declass N k source sink s
+    unfolding declass andThen
+    declass-misplaced p = rw (← e, h, told q p, declass)
+
+    pub declass-is : t ≡ false → is m ≡ declass N k source sink s
+    unfolding declass andThen
+    declass-is p = rw (← e, h, told q p, declass)

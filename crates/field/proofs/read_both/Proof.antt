@@ -1,0 +1,24 @@
+-- The pair's answer, as a form.
+use Rattle.field.proofs.Words.{paired-bad, both-is}
+use borrow.Author.Needs.{needs}
+use Rattle.field.proofs.read_both.Statement.{statement}
+use Rattle.field.proofs.read_both.Tie as tie
+
+read-pair-requires : tie.Need-read-pair-requires
+read-pair-requires c κs = search needs
+
+enum-known-number : tie.Need-enum-known-number
+enum-known-number c = search needs
+
+enum-known-y : tie.Need-enum-known-y
+enum-known-y c = search needs
+
+returns : tie.Need-returns
+returns c = search paired-bad
+
+returns-2 : tie.Need-returns-2
+returns-2 c = search both-is
+
+pub read-both-spec : {M : Type 1} → statement M
+read-both-spec =
+    tie.close (tie.spec read-pair-requires enum-known-number enum-known-y returns returns-2)

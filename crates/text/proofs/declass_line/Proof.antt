@@ -1,0 +1,71 @@
+-- The line is opened, then its field read.
+use Rattle.field.proofs.Answers.{answers}
+use Rattle.text.proofs.Lines.{ways, places}
+use borrow.Author.Needs.{needs}
+use Rattle.text.proofs.declass_line.Statement.{statement}
+use Rattle.text.proofs.declass_line.Tie as tie
+
+slice-aggregate-open-line : tie.Need-slice-aggregate-open-line
+slice-aggregate-open-line c = search needs
+
+open-line-requires : tie.Need-open-line-requires
+open-line-requires c κs = search needs
+
+enum-known-next : tie.Need-enum-known-next
+enum-known-next c = search needs
+
+enum-known-start : tie.Need-enum-known-start
+enum-known-start c = search needs
+
+sub-read-declass : tie.Need-sub-read-declass
+sub-read-declass c = search places
+
+part-read-declass-start : tie.Need-part-read-declass-start
+part-read-declass-start c = search places
+
+part-read-declass-end : tie.Need-part-read-declass-end
+part-read-declass-end c = search places
+
+read-declass-requires : tie.Need-read-declass-requires
+read-declass-requires c κs = search needs
+
+enum-known-number : tie.Need-enum-known-number
+enum-known-number c = search needs
+
+enum-known-m : tie.Need-enum-known-m
+enum-known-m c = search needs
+
+add-t25 : tie.Need-add-t25
+add-t25 c = search (needs, places)
+
+add-t26 : tie.Need-add-t26
+add-t26 c = search (needs, places)
+
+returns : tie.Need-returns
+returns c = (search ways, search places)
+
+returns-2 : tie.Need-returns-2
+returns-2 c = (search (ways, answers), search places)
+
+returns-3 : tie.Need-returns-3
+returns-3 c = (search (ways, answers), search places)
+
+pub declass-line-spec : {M : Type 1} → statement M
+declass-line-spec =
+    tie.close
+    (tie.spec
+    slice-aggregate-open-line
+    open-line-requires
+    enum-known-next
+    enum-known-start
+    sub-read-declass
+    part-read-declass-start
+    part-read-declass-end
+    read-declass-requires
+    enum-known-number
+    enum-known-m
+    add-t25
+    add-t26
+    returns
+    returns-2
+    returns-3)

@@ -1,0 +1,71 @@
+-- The line is opened, then its field read.
+use Rattle.field.proofs.Answers.{answers}
+use Rattle.text.proofs.Lines.{ways, places}
+use borrow.Author.Needs.{needs}
+use Rattle.text.proofs.risk_line.Statement.{statement}
+use Rattle.text.proofs.risk_line.Tie as tie
+
+slice-aggregate-open-line : tie.Need-slice-aggregate-open-line
+slice-aggregate-open-line c = search needs
+
+open-line-requires : tie.Need-open-line-requires
+open-line-requires c κs = search needs
+
+enum-known-next : tie.Need-enum-known-next
+enum-known-next c = search needs
+
+enum-known-start : tie.Need-enum-known-start
+enum-known-start c = search needs
+
+sub-read-risk : tie.Need-sub-read-risk
+sub-read-risk c = search places
+
+part-read-risk-start : tie.Need-part-read-risk-start
+part-read-risk-start c = search places
+
+part-read-risk-end : tie.Need-part-read-risk-end
+part-read-risk-end c = search places
+
+read-risk-requires : tie.Need-read-risk-requires
+read-risk-requires c κs = search needs
+
+enum-known-number : tie.Need-enum-known-number
+enum-known-number c = search needs
+
+enum-known-b : tie.Need-enum-known-b
+enum-known-b c = search needs
+
+add-t21 : tie.Need-add-t21
+add-t21 c = search (needs, places)
+
+add-t22 : tie.Need-add-t22
+add-t22 c = search (needs, places)
+
+returns : tie.Need-returns
+returns c = (search ways, search places)
+
+returns-2 : tie.Need-returns-2
+returns-2 c = (search (ways, answers), search places)
+
+returns-3 : tie.Need-returns-3
+returns-3 c = (search (ways, answers), search places)
+
+pub risk-line-spec : {M : Type 1} → statement M
+risk-line-spec =
+    tie.close
+    (tie.spec
+    slice-aggregate-open-line
+    open-line-requires
+    enum-known-next
+    enum-known-start
+    sub-read-risk
+    part-read-risk-start
+    part-read-risk-end
+    read-risk-requires
+    enum-known-number
+    enum-known-b
+    add-t21
+    add-t22
+    returns
+    returns-2
+    returns-3)

@@ -1,0 +1,91 @@
+-- What the positions, lines and names of the code of crate text stand for, on the text that it is lent.
+-- Not to be believed: the contracts of read_plan and read_policy do not name them.
+use Prim.Native.Nat.{ℕ, zero, suc, _+_, _-_, _≤_, _<_}
+use mathlib.Core.Bool.{cond, _&&_}
+use mathlib.Core.List.{List, [], _∷_}
+use lib.Dec.{ltb}
+use lib.ListN.{length, getD, take, drop}
+use Rattle.scan.specs.Bytes.{before, startsWith}
+use Rattle.field.specs.Fields.{Field, is, bad}
+use Rattle.text.specs.Reading.{longest, Cursor, on, stopped, Step, Reader}
+use Rattle.text.specs.declared.Position.{Position}
+use Rattle.text.specs.declared.Position.the-variants.{On, Stopped}
+use Rattle.text.specs.declared.Span.{Span}
+use Rattle.text.specs.declared.Span.the-variants.{At, Missing}
+use Rattle.text.specs.declared.Line.{Line}
+use Rattle.text.specs.declared.Line.the-variants.{Open, Closed}
+
+-- The bytes from a to e, as the code lends them.
+abbrev pub part : ℕ → ℕ → List ℕ → List ℕ
+part a e text = take (e - a) (drop a text)
+
+-- ---- positions
+
+unfoldable pub cursorOf : List ℕ → Position → Cursor
+cursorOf text (On at k) = on (drop at text) k
+cursorOf text (Stopped n k) = stopped n k
+
+-- The position lies in a text that is not too long, and each line before it took a byte.
+unfoldable pub Standing : List ℕ → Position → Type 0
+Standing text (On at k) = (at ≤ length text) × (k ≤ at + 1) × (length text ≤ longest)
+Standing text (Stopped n k) = Unit
+
+-- What a line's reader of the code gives.
+abbrev pub stepOf : {A : Type 0} → List ℕ → A → Position → Step A
+stepOf text v next = record { value = v; next = cursorOf text next }
+
+-- ---- a line in two steps: its field found, and read
+
+-- Where the field of the first line starts and ends.
+unfoldable pub spanOf : List ℕ → List ℕ → Span
+spanOf key text =
+    cond (ltb (before 10 text) (length text) && startsWith key (take (before 10 text) text))
+    (At (length key) (before 10 text))
+    Missing
+
+-- A line that has its key: its field, the text after it and its number. Or where reading stands without it.
+pub data Opened : Type 0 where
+  found : List ℕ → List ℕ → ℕ → Opened
+  gone : Cursor → Opened
+
+unfoldable pub opened : List ℕ → Cursor → Opened
+opened key (on text k) =
+    cond (ltb (before 10 text) (length text) && startsWith key (take (before 10 text) text))
+    (found (drop (length key) (take (before 10 text) text)) (drop (before 10 text + 1) text) k)
+    (gone (stopped 2 k))
+opened key (stopped n k) = gone (stopped n k)
+
+unfoldable pub settled : {A : Type 0} → A → List ℕ → ℕ → Field A → Step A
+settled empty rest k (is v) = record { value = v; next = on rest (k + 1) }
+settled empty rest k (bad n) = record { value = empty; next = stopped n k }
+
+unfoldable pub after : {A : Type 0} → A → (List ℕ → Field A) → Opened → Step A
+after empty read (found s rest k) = settled empty rest k (read s)
+after empty read (gone c) = record { value = empty; next = c }
+
+-- The definition's `line`, with the bytes of its key.
+unfoldable pub keyed : {A : Type 0} → A → List ℕ → (List ℕ → Field A) → Reader A
+keyed empty key read c = after empty read (opened key c)
+
+unfoldable pub openedOf : List ℕ → Line → Opened
+openedOf text (Open a e k) = found (part a e text) (drop (e + 1) text) k
+openedOf text (Closed next) = gone (cursorOf text next)
+
+-- The field lies in its line.
+unfoldable pub Within : List ℕ → Line → Type 0
+Within text (Open a e k) = (a ≤ e) × (e < length text) × (k ≤ e + 1) × (length text ≤ longest)
+Within text (Closed next) = Standing text next
+
+-- ---- names that stood
+
+-- The names at the first places of the two rows, the last first.
+unfoldable pub namesOf : List ℕ → List ℕ → List ℕ → ℕ → List (List ℕ)
+namesOf text starts ends zero = []
+namesOf text starts ends (suc n) = part (getD starts n 0) (getD ends n 0) text ∷ namesOf text starts ends n
+
+-- The places lie in the text.
+pub record Remembered (text starts ends : List ℕ) (count : ℕ) : Type 0 where
+  pub starts-room : count ≤ length starts
+  pub ends-room : count ≤ length ends
+  pub start : (j : ℕ) → j < count → getD starts j 0 ≤ getD ends j 0
+  pub end : (j : ℕ) → j < count → getD ends j 0 ≤ length text
