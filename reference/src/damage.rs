@@ -100,11 +100,8 @@ fn special(r: &mut Rng, d: &Draft, text: &[u8], line: &[u8], at: usize) -> Optio
         "name" => match r.below(7) {
             0..=2 => {
                 // a name that stood earlier, if there is one
-                let earlier: Vec<(usize, usize)> = lines(text)[..at]
-                    .iter()
-                    .copied()
-                    .filter(|&(s, e)| text[s..e].starts_with(b"name="))
-                    .collect();
+                let before = lines(text)[..at].to_vec();
+                let earlier: Vec<_> = before.into_iter().filter(|&(s, e)| text[s..e].starts_with(b"name=")).collect();
                 if earlier.is_empty() {
                     return None;
                 }
@@ -124,7 +121,7 @@ fn special(r: &mut Rng, d: &Draft, text: &[u8], line: &[u8], at: usize) -> Optio
                 let place = at.checked_sub(5)? / 5;
                 let a = d.policy.get(place)?;
                 let beside = if r.percent(20) && n < 64 { 1u64 << n } else { 0 };
-                let own = *r.pick(&[1u64 << a.source, 1 << a.sink, 1 << a.source | 1 << a.sink]);
+                let own = *r.pick(&[1u64 << a.source, 1 << a.sink, 1 << a.sink, 1 << a.source, 1 << a.source | 1 << a.sink]);
                 format!("{:016x}", a.declass | own | beside)
             }
             _ => mask(r, 16, n),
@@ -182,4 +179,68 @@ pub fn too_long(r: &mut Rng, text: &mut Vec<u8>) {
         text.extend_from_slice(filling);
     }
     text.truncate(length);
+}
+
+/// Corners of reading, each as one change of the base texts: (which text is changed, from, to).
+const CORNERS: [(bool, &str, &str); 40] = [
+    (true, "templates=4", "templates=0"),
+    (true, "templates=4", "templates=65"),
+    (true, "templates=4", "templates=04"),
+    (true, "templates=4", "templates=10000"),
+    (true, "templates=4", "templates=3"),
+    (true, "templates=4", "templates=5"),
+    (true, "identifiers=1", "identifiers=0"),
+    (true, "identifiers=1", "identifiers=32"),
+    (true, "identifiers=1", "identifiers=33"),
+    (true, "name=hub", "name="),
+    (true, "name=hub", "name=abcdefghijklmnop"),
+    (true, "name=hub", "name=abcdefghijklmnopq"),
+    (true, "name=split", "name=boot"),
+    (true, "name=reader", "name=hub"),
+    (true, "name=reader", "name=readers"),
+    (true, "form=go:2", "form=go:0"),
+    (true, "form=go:2", "form=go:4"),
+    (true, "form=go:2", "form=go:9999"),
+    (true, "form=go:2", "form=either:9,x"),
+    (true, "form=go:2", "form=both:9999,04"),
+    (true, "lab=00000001", "lab=00000002"),
+    (true, "lab=00000001", "lab=8000000g"),
+    (true, "lab=00000001", "lab=0000000A"),
+    (true, "risk=1", "risk=2"),
+    (true, "risk=1\n", "risk=1"),
+    (true, "risk=1\n", "risk=1\n\n"),
+    (false, "assertions=1", "assertions=0"),
+    (false, "assertions=1", "assertions=2"),
+    (false, "assertions=1", "assertions=33"),
+    (false, "kind=secrecy", "kind=clean"),
+    (false, "kind=secrecy", "kind=prot"),
+    (false, "source=3", "source=4"),
+    (false, "source=3", "source=0"),
+    (false, "sink=3", "sink=1"),
+    (false, "sink=3", "sink=00"),
+    (false, "0007", "000f"),
+    (false, "0007", "0017"),
+    (false, "0007", "001F"),
+    (false, "0007\n", "0007"),
+    (false, "0007\n", "001f\n\n"),
+];
+
+/// The pairs of texts of the corners, and those with an empty text.
+pub fn corners() -> Vec<(Vec<u8>, Vec<u8>)> {
+    let texts = || (Draft::base().plan_text(), Draft::base().policy_text());
+    let mut list: Vec<(Vec<u8>, Vec<u8>)> = CORNERS
+        .iter()
+        .map(|&(in_plan, from, to)| {
+            let (mut plan, mut policy) = texts();
+            let text = if in_plan { &mut plan } else { &mut policy };
+            let changed = String::from_utf8_lossy(text).replacen(from, to, 1);
+            assert!(changed.as_bytes() != &text[..]);
+            *text = changed.into_bytes();
+            (plan, policy)
+        })
+        .collect();
+    list.push((texts().0, vec![]));
+    list.push((vec![], texts().1));
+    list.push((vec![], vec![]));
+    list
 }

@@ -137,7 +137,9 @@ pub below-shift : (m items : ℕ) (b : Bool) → b ≡ eqb (m / 2 ^ items) 0 →
 below-shift m items b e = e ∙ go (eqb (m / 2 ^ items) 0) refl
   where
     go : (t : Bool) → eqb (m / 2 ^ items) 0 ≡ t → eqb (m / 2 ^ items) 0 ≡ ltb m (2 ^ items)
-    go true q = q ∙ sym (lt-ltb m (2 ^ items) (omega (arith, eqb-true (m / 2 ^ items) 0 q, split m items, mod-lt m (pow-pos items), ap (λ (d : ℕ). d * 2 ^ items) (eqb-true (m / 2 ^ items) 0 q))))
+    go true q =
+        let nothing : m / 2 ^ items ≡ 0 = eqb-true (m / 2 ^ items) 0 q in
+        q ∙ sym (lt-ltb m (2 ^ items) (omega (arith, split m items, mod-lt m (pow-pos items), ap (λ (d : ℕ). d * 2 ^ items) nothing)))
     go false q = q ∙ sym (le-ltb m (2 ^ items) (reaches (lt-or-le m (2 ^ items))))
       where
         reaches : (m < 2 ^ items) ⊎ (2 ^ items ≤ m) → 2 ^ items ≤ m

@@ -1,6 +1,6 @@
 -- What holds a message back (document 01, "Send").
 use Prim.Native.Nat.{ℕ, _<_}
-use mathlib.Core.Path.{_≡_, sym, ap, ap₂, _∙_}
+use mathlib.Core.Path.{_≡_, ap₂, _∙_}
 use mathlib.Core.Bool.{Bool, true, false, not, _&&_, _||_, and-false}
 use lib.Dec.{eqb}
 use borrow.Author.Tests.{ne-eqb}

@@ -16,3 +16,4 @@ pub mod Secrecy
 pub mod Delivery
 pub mod Steps
 pub mod Promise
+pub mod Box

@@ -1,7 +1,7 @@
 -- Rules 17 to 19: each check is accepted exactly when its rules hold, and where it is broken the rule that it names is
 -- the first that fails.
 use Prim.Native.Nat.{ℕ, _<_}
-use mathlib.Core.Path.{_≡_, refl, sym, ap, subst, _∙_}
+use mathlib.Core.Path.{_≡_, refl, sym, ap, ap₂, subst, _∙_}
 use mathlib.Core.Bool.{Bool, true, false, not, cond, _&&_, _||_}
 use mathlib.Core.Logic.{_↔_, _⊎_, inl, inr, ⊎-elim}
 use Rattle.lists.specs.Numbers.{every, any}
@@ -21,7 +21,7 @@ use Rattle.route.proofs.Exact.{shares-exactly, splits-exactly}
 use Rattle.rules.specs.Rules.{wearable, Serves, Rule17, Rules18-19, Asked}
 use Rattle.rules.specs.Judge.{Breach, Verdict, Accepted, Broken, serves, checkProt, checkAssertion, checkAssertions}
 use Rattle.rules.specs.Broken.{breach, EarlierIdentifiers, AssertionBroken, broken17, broken18, broken19}
-use Rattle.rules.proofs.Walk.{Decided, broken-accepted, broken-same, below-each, below-all, below-stop, below-decided}
+use Rattle.rules.proofs.Walk.{Decided, broken-accepted, broken-same, below-each, below-all, below-stop, below-decided, below-broken}
 
 or-not : (a b : Bool) → (a || not b) ≡ true → a ≡ false → b ≡ false
 or-not true b e h = absurd (passes-fails true refl h)
@@ -177,6 +177,27 @@ module _ (plan : Plan) (range : InRange plan) (a : Assertion) where
         let s = below-stop (plan .identifiers) (checkProt plan place a) b e in
         prot-broken place (s .place) b (s .there) (s .inside) (λ u l. prot-rules place u (s .earlier u l))
 
+    lower-prot : (t : ℕ) → EarlierIdentifiers plan a t → (u : ℕ) → u < t → checkProt plan place a u ≡ Accepted
+    lower-prot t e u l = rules-prot place u (e .lower u l)
+
+    -- At t the source wears it, and the sink's label and the split are as given.
+    prot-at : (t : ℕ) → EarlierIdentifiers plan a t → (k s : Bool) → has t (at plan (a .sink) .lab) ≡ k → splitsTag plan t (a .source) (a .sink) (a .anc) ≡ s
+        → checkProt plan place a t ≡ tested place a t true k s
+    prot-at t e k s h q =
+        checked place t
+        ∙ ap (λ (x : Bool). tested place a t x (has t (at plan (a .sink) .lab)) (splitsTag plan t (a .source) (a .sink) (a .anc))) (e .worn)
+        ∙ ap₂ (tested place a t true) h q
+
+    pub broken-assertion : (kind : Kind) (b : Breach) → AssertionBroken plan place a kind b → checkAssertion plan place a kind ≡ Broken b
+    unfolding checkAssertion
+    broken-assertion kind b (broken17 unserved) =
+        ap (λ (c : Bool). cond c Accepted (Broken (breach 17 place (a .sink) 255))) (fails (any (plan .identifiers) (serves plan a)) (λ e. unserved (rule17-of e)))
+    broken-assertion kind b (broken18 {t} e k) =
+        below-broken (plan .identifiers) (checkProt plan place a) t (breach 18 place (a .sink) t) (e .identifier) (lower-prot t e) (prot-at t e false _ k refl)
+    broken-assertion kind b (broken19 {t} e k s) =
+        below-broken (plan .identifiers) (checkProt plan place a) t (breach 19 place (a .sink) t) (e .identifier) (lower-prot t e)
+        (prot-at t e true true k (split? place t .1 s))
+
 -- ---- all assertions
 
 decided-one : (plan : Plan) (place : ℕ) (a : Assertion) (kind : Kind) → Decided (checkAssertion plan place a kind)
@@ -224,3 +245,10 @@ module _ (plan : Plan) (policy : Policy) where
           earlier = λ j l. asked-at j (s .earlier j l);
           there = assertion-broken plan range (assertionAt policy i) i (assertionAt policy i .kind) b (s .there);
         }
+
+    pub broken-assertions : (b : Breach) → StopAt b → checkAssertions plan policy ≡ Broken b
+    unfolding checkAssertions
+    broken-assertions b s =
+        below-broken (policy .count) each (s .place) b (s .inside)
+        (λ j l. asked-assertion plan range (assertionAt policy j) j (assertionAt policy j .kind) (s .earlier j l))
+        (broken-assertion plan range (assertionAt policy (s .place)) (s .place) (assertionAt policy (s .place) .kind) b (s .there))

@@ -1,7 +1,8 @@
 -- Rules 11 to 16: each check is accepted exactly when its rules hold, and where it is broken the rule that it names is
 -- the first that fails, at the lowest identifier.
 use Prim.Native.Nat.{ℕ, _≤_, _<_}
-use mathlib.Core.Path.{_≡_, sym, ap, subst, _∙_}
+use mathlib.Core.Path.{_≡_, sym, ap, ap₂, subst, _∙_}
+use mathlib.Core.List.{List}
 use mathlib.Core.Bool.{Bool, true, false, cond, _&&_}
 use mathlib.Core.Logic.{⊎-elim}
 use native.Mathlib.Nat.{lt-trans}
@@ -11,13 +12,13 @@ use borrow.Author.Tests.{ltb-true, lt-ltb}
 use Rattle.lists.specs.Numbers.{any, lowest}
 use Rattle.lists.proofs.Tests.{and-left, and-right, and-of, fails, passes-fails, lt-or-le}
 use Rattle.lists.proofs.Every.{any-at, any-of}
-use Rattle.lists.proofs.Lowest.{lowest-holds, lowest-below, lowest-any}
+use Rattle.lists.proofs.Lowest.{lowest-holds, lowest-below, lowest-any, lowest-is}
 use Rattle.plan.specs.declared.Plan.{Plan}
 use Rattle.plan.specs.Plan.{at, successors, Successor, creates}
 use Rattle.rules.specs.Rules.{Rule11, offends12, offends13, offends14, offends15, offends16, Kept, EdgeRules}
 use Rattle.rules.specs.Judge.{Breach, Verdict, Accepted, Broken, firstIn, lowestOffender, creator, nextCreator, check11, checkEdge, checkEdges}
 use Rattle.rules.specs.Broken.{breach, CreatedTwice, Lowest, EdgeBroken, broken12, broken13, broken14, broken15, broken16, EarlierEdges}
-use Rattle.rules.proofs.Walk.{Decided, test-accepted, test-broken, test-decided, or-accepted, or-both, or-broken, or-decided, below-each, below-all, below-stop, below-decided, in-each, in-all, in-stop, in-decided}
+use Rattle.rules.proofs.Walk.{Decided, test-accepted, test-broken, test-decided, or-accepted, or-both, or-broken, or-decided, or-first, or-later, below-each, below-all, below-stop, below-decided, below-broken, in-broken, in-each, in-all, in-stop, in-decided}
 
 -- ---- the lowest offender
 
@@ -39,6 +40,13 @@ module _ (plan : Plan) (rule X Y : ℕ) (offends : ℕ → Bool) where
       let r = test-broken (ltb (lowest (plan .identifiers) offends) (plan .identifiers)) (breach rule X Y (lowest (plan .identifiers) offends)) b e in
       let l = ltb-true (lowest (plan .identifiers) offends) (plan .identifiers) (r .0) in
       (lowest (plan .identifiers) offends, record { identifier = l; breaks = lowest-holds (plan .identifiers) offends l; lowest = lowest-below (plan .identifiers) offends }, r .1)
+
+  pub found-offender : (i : ℕ) → Lowest plan offends i → lowestOffender plan rule X Y offends ≡ Broken (breach rule X Y i)
+  unfolding lowestOffender
+  found-offender i l =
+      let e : lowest (plan .identifiers) offends ≡ i = lowest-is (plan .identifiers) offends i (l .identifier) (l .breaks) (l .lowest) in
+      ap (λ (j : ℕ). cond (ltb j (plan .identifiers)) (Broken (breach rule X Y j)) Accepted) e
+      ∙ ap (λ (c : Bool). cond c (Broken (breach rule X Y i)) Accepted) (lt-ltb i (plan .identifiers) (l .identifier))
 
   pub offender-decided : Decided (lowestOffender plan rule X Y offends)
   unfolding lowestOffender
@@ -109,6 +117,21 @@ module _ (plan : Plan) (t : ℕ) where
         lowest = λ u W Z k. lower u k W Z;
       }
 
+  -- The two lowest creators, whichever are named.
+  creator-is : (X Y : ℕ) → CreatedTwice plan X Y t → creator plan t ≡ X
+  unfolding creator
+  creator-is X Y c = lowest-is (plan .count) (creates plan t) X (lt-trans (c .order) (c .inside)) (c .first) (c .none-below)
+
+  next-is : (X Y : ℕ) → CreatedTwice plan X Y t → nextCreator plan t ≡ Y
+  unfolding nextCreator
+  next-is X Y c =
+      let e = creator-is X Y c in
+      ap (λ (k : ℕ). lowest (plan .count) (λ W. ltb k W && creates plan t W)) e
+      ∙ lowest-is (plan .count) (λ W. ltb X W && creates plan t W) Y (c .inside)
+      (and-of (ltb X Y) (creates plan t Y) (lt-ltb X Y (c .order)) (c .second))
+      (λ W l. fails (ltb X W && creates plan t W) (λ k.
+      passes-fails (creates plan t W) (and-right (ltb X W) (creates plan t W) k) (c .none-between W (ltb-true X W (and-left (ltb X W) (creates plan t W) k)) l)))
+
 module _ (plan : Plan) where
   abbrev twice : ℕ → Bool
   twice t = ltb (nextCreator plan t) (plan .count)
@@ -136,6 +159,15 @@ module _ (plan : Plan) where
         created-twice plan t l (lowest-holds (plan .identifiers) twice l) (λ u h. once-of plan u (lowest-below (plan .identifiers) twice u h)),
         r .1,
       )
+
+  pub of-broken11 : (X Y t : ℕ) → CreatedTwice plan X Y t → check11 plan ≡ Broken (breach 11 X Y t)
+  unfolding check11
+  of-broken11 X Y t c =
+      let there : twice t ≡ true = ap (λ (k : ℕ). ltb k (plan .count)) (next-is plan t X Y c) ∙ lt-ltb Y (plan .count) (c .inside) in
+      let e = lowest-is (plan .identifiers) twice t (c .identifier) there (λ u l. once-to plan u (λ W Z. c .lowest u W Z l)) in
+      ap (λ (u : ℕ). cond (ltb u (plan .identifiers)) (Broken (breach 11 (creator plan u) (nextCreator plan u) u)) Accepted) e
+      ∙ ap (λ (b : Bool). cond b (Broken (breach 11 (creator plan t) (nextCreator plan t) t)) Accepted) (lt-ltb t (plan .identifiers) (c .identifier))
+      ∙ ap₂ (λ (x y : ℕ). Broken (breach 11 x y t)) (creator-is plan t X Y c) (next-is plan t X Y c)
 
   pub decided11 : Decided (check11 plan)
   unfolding check11
@@ -201,6 +233,24 @@ module _ (plan : Plan) (X Y : ℕ) where
       (or-broken v13 _ b (h₁ .1)))
       (or-broken v12 _ b e)
 
+  pub broken-edge : (b : Breach) → EdgeBroken plan X Y b → checkEdge plan X Y ≡ Broken b
+  unfolding checkEdge
+  broken-edge b (broken12 l) = or-first v12 _ _ (found-offender plan 12 X Y _ _ l)
+  broken-edge b (broken13 k₁ l) =
+      or-later v12 _ _ (kept-offender plan 12 X Y _ k₁) (or-first v13 _ _ (found-offender plan 13 X Y _ _ l))
+  broken-edge b (broken14 k₁ k₂ l) =
+      or-later v12 _ _ (kept-offender plan 12 X Y _ k₁)
+      (or-later v13 _ _ (kept-offender plan 13 X Y _ k₂) (or-first v14 _ _ (found-offender plan 14 X Y _ _ l)))
+  broken-edge b (broken15 k₁ k₂ k₃ l) =
+      or-later v12 _ _ (kept-offender plan 12 X Y _ k₁)
+      (or-later v13 _ _ (kept-offender plan 13 X Y _ k₂)
+      (or-later v14 _ _ (kept-offender plan 14 X Y _ k₃) (or-first v15 v16 _ (found-offender plan 15 X Y _ _ l))))
+  broken-edge b (broken16 k₁ k₂ k₃ k₄ l) =
+      or-later v12 _ _ (kept-offender plan 12 X Y _ k₁)
+      (or-later v13 _ _ (kept-offender plan 13 X Y _ k₂)
+      (or-later v14 _ _ (kept-offender plan 14 X Y _ k₃)
+      (or-later v15 v16 _ (kept-offender plan 15 X Y _ k₄) (found-offender plan 16 X Y _ _ l))))
+
   pub edge-decided : Decided (checkEdge plan X Y)
   unfolding checkEdge
   edge-decided =
@@ -238,6 +288,14 @@ module _ (plan : Plan) where
         },
         edge-broken plan X (i .element) b (i .there),
       )
+
+  pub broken-edges : (X Y : ℕ) (b : Breach) → EarlierEdges plan X Y → EdgeBroken plan X Y b → checkEdges plan ≡ Broken b
+  unfolding checkEdges
+  broken-edges X Y b e k =
+      below-broken (plan .count) from X b (e .inside)
+      (λ W l. in-all (successors (at plan W .form)) (checkEdge plan W) (λ Z s. rules-edge plan W Z (e .lower W Z l s)))
+      (ap (λ (l : List ℕ). firstIn l (checkEdge plan X)) (e .order)
+      ∙ in-broken (e .before) Y (e .after) (checkEdge plan X) b (λ Z s. rules-edge plan X Z (e .same Z s)) (broken-edge plan X Y b k))
 
   pub edges-decided : Decided (checkEdges plan)
   unfolding checkEdges

@@ -1,5 +1,5 @@
--- The judge: accepted exactly when every rule holds, and broken names the first that does not. A text that is not read
--- is neither.
+-- The judge: accepted exactly when every rule holds, and broken exactly with the first that does not. Where a text is
+-- not read it is neither.
 use Prim.Native.Nat.{ℕ}
 use mathlib.Core.Path.{_≡_, refl, ap, subst, _∙_}
 use mathlib.Core.Logic.{_↔_, ⊎-elim}
@@ -13,9 +13,9 @@ use Rattle.text.specs.Reading.{readPlan, readPolicy}
 use Rattle.rules.specs.Rules.{EveryRule}
 use Rattle.rules.specs.Judge.{Text, PlanText, PolicyText, Fault, Breach, Verdict, Accepted, Broken, Unread, check11, checkEdges, checkAssertions, judgeRead, afterReading, judge}
 use Rattle.rules.specs.Broken.{FirstBroken, broken11, on-edge, on-assertion}
-use Rattle.rules.proofs.Walk.{decided-not, unread-accepted, unread-broken, or-accepted, or-both, or-broken, or-decided}
-use Rattle.rules.proofs.Edges.{rule11-of, rule11-to, broken11-of, decided11, edges-rules, rules-edges, edges-broken, edges-decided}
-use Rattle.rules.proofs.Assertions.{assertions-asked, asked-assertions, assertions-broken, assertions-decided}
+use Rattle.rules.proofs.Walk.{decided-not, unread-accepted, unread-broken, or-accepted, or-both, or-broken, or-decided, or-first, or-later}
+use Rattle.rules.proofs.Edges.{rule11-of, rule11-to, broken11-of, of-broken11, decided11, edges-rules, rules-edges, edges-broken, broken-edges, edges-decided}
+use Rattle.rules.proofs.Assertions.{assertions-asked, asked-assertions, assertions-broken, broken-assertions, assertions-decided}
 
 -- ---- over a plan and a policy that were read
 
@@ -43,16 +43,29 @@ module _ (plan : Plan) (policy : Policy) (range : InRange plan) where
   pub judge-exactly : (judgeRead plan policy ≡ Accepted) ↔ EveryRule plan policy
   judge-exactly = (every-rule, accepted)
 
-  -- Broken names the first broken rule, with its figures.
-  pub broken-first : (b : Breach) → judgeRead plan policy ≡ Broken b → FirstBroken plan policy b
+  first-of : (b : Breach) → judgeRead plan policy ≡ Broken b → FirstBroken plan policy b
   unfolding judgeRead
-  broken-first b e = ⊎-elim (λ h. let r = broken11-of plan b h in subst (FirstBroken plan policy) (r .4) (broken11 (r .3)))
+  first-of b e = ⊎-elim (λ h. let r = broken11-of plan b h in subst (FirstBroken plan policy) (r .4) (broken11 (r .3)))
       (λ h₁. let once = rule11-of plan (h₁ .0) in
       ⊎-elim (λ h. let r = edges-broken plan b h in on-edge (r .0) (r .1) once (r .2) (r .3))
       (λ h₂. let s = assertions-broken plan policy range b (h₂ .1) in
       on-assertion (s .place) once (edges-rules plan (h₂ .0)) (s .inside) (s .earlier) (s .there))
       (or-broken (checkEdges plan) (checkAssertions plan policy) b (h₁ .1)))
       (or-broken (check11 plan) _ b e)
+
+  of-first : (b : Breach) → FirstBroken plan policy b → judgeRead plan policy ≡ Broken b
+  unfolding judgeRead
+  of-first b (broken11 {X} {Y} {t} c) = or-first (check11 plan) _ _ (of-broken11 plan X Y t c)
+  of-first b (on-edge X Y once earlier k) =
+      or-later (check11 plan) _ b (rule11-to plan once) (or-first (checkEdges plan) (checkAssertions plan policy) b (broken-edges plan X Y b earlier k))
+  of-first b (on-assertion i once edges l earlier k) =
+      or-later (check11 plan) _ b (rule11-to plan once)
+      (or-later (checkEdges plan) (checkAssertions plan policy) b (rules-edges plan edges)
+      (broken-assertions plan policy range b (record { place = i; inside = l; earlier = earlier; there = k })))
+
+  -- Broken exactly with the first broken rule and its figures.
+  pub broken-first : (b : Breach) → (judgeRead plan policy ≡ Broken b) ↔ FirstBroken plan policy b
+  broken-first b = (first-of b, of-first b)
 
 -- ---- over the two texts
 

@@ -87,18 +87,17 @@ or-decided Accepted w d k = k
 or-decided (Broken b) w d k = tt
 or-decided (Unread f) w d k = absurd d
 
--- As code meets it: the first answer stands where it is not accepted, else the second.
-pub or-first : (v w : Verdict) (b : Breach) → v ≡ Broken b → Broken b ≡ orElse v w
+-- The first stands where it is broken, and the second where the first is accepted.
+pub or-first : (v w : Verdict) (b : Breach) → v ≡ Broken b → orElse v w ≡ Broken b
 unfolding orElse
-or-first v w b e = sym (ap (λ (x : Verdict). orElse x w) e)
-
-pub or-unread : (v w : Verdict) (f : Fault) → v ≡ Unread f → Unread f ≡ orElse v w
-unfolding orElse
-or-unread v w f e = sym (ap (λ (x : Verdict). orElse x w) e)
+or-first v w b e = ap (λ (x : Verdict). orElse x w) e
 
 pub or-second : (v w : Verdict) → v ≡ Accepted → w ≡ orElse v w
 unfolding orElse
 or-second v w e = sym (ap (λ (x : Verdict). orElse x w) e)
+
+pub or-later : (v w : Verdict) (b : Breach) → v ≡ Accepted → w ≡ Broken b → orElse v w ≡ Broken b
+or-later v w b e h = sym (or-second v w e) ∙ h
 
 -- The code's test.
 pub accepted-is : (v : Verdict) → accepted v ≡ true → v ≡ Accepted
@@ -178,6 +177,11 @@ first-at (suc n) f (suc i) h a e =
 pub below-leaves : (n : ℕ) (f : ℕ → Verdict) (i : ℕ) (v : Verdict) → i < n → firstBelow i f ≡ Accepted → v ≡ f i → (a : Bool) → a ≡ accepted v → a ≡ false → v ≡ firstBelow n f
 below-leaves n f i v h p e a t q = e ∙ first-at n f i h (below-each i f p) (ap accepted (sym e) ∙ sym t ∙ q)
 
+-- Broken at i, and accepted before: so is the walk.
+pub below-broken : (n : ℕ) (f : ℕ → Verdict) (i : ℕ) (b : Breach) → i < n → ((j : ℕ) → j < i → f j ≡ Accepted) → f i ≡ Broken b → firstBelow n f ≡ Broken b
+unfolding accepted
+below-broken n f i b h a e = sym (first-at n f i h a (ap accepted e)) ∙ e
+
 -- It ran to the end.
 pub below-end : (n : ℕ) (f : ℕ → Verdict) (i : ℕ) → i ≤ n → n ≤ i → firstBelow i f ≡ Accepted → Accepted ≡ firstBelow n f
 below-end n f i l g e = let q : i ≡ n = omega arith in sym (subst (λ (k : ℕ). firstBelow k f ≡ Accepted) q e)
@@ -217,6 +221,13 @@ in-stop (X ∷ l) f b e =
       earlier = λ Y k. ⊎-elim (λ q. ap f q ∙ h .0) (s .earlier Y) k;
     })
     (or-broken (f X) (firstIn l f) b e)
+
+pub in-broken : (before : List ℕ) (Y : ℕ) (after : List ℕ) (f : ℕ → Verdict) (b : Breach) → ((Z : ℕ) → Among Z before → f Z ≡ Accepted) → f Y ≡ Broken b
+    → firstIn (before ++ (Y ∷ after)) f ≡ Broken b
+unfolding firstIn
+in-broken [] Y after f b a e = or-first (f Y) (firstIn after f) b e
+in-broken (X ∷ before) Y after f b a e =
+    or-later (f X) (firstIn (before ++ (Y ∷ after)) f) b (a X (inl refl)) (in-broken before Y after f b (λ Z k. a Z (inr k)) e)
 
 pub in-decided : (l : List ℕ) (f : ℕ → Verdict) → ((Y : ℕ) → Decided (f Y)) → Decided (firstIn l f)
 unfolding firstIn

@@ -2,7 +2,7 @@
 //! corpus answer read|judge|monitor FILE: prints the reference's answers to a file of cases.
 //! corpus promise SEED N: the box promise on N accepted pairs with a list of calls each; stores nothing.
 
-use reference::damage::{damage, too_long};
+use reference::damage::{corners, damage, too_long};
 use reference::generate::{calls, Draft, Style};
 use reference::history::promise;
 use reference::judge::{assertion, first_broken, judge, locate, read, show, Broken, Text, Verdict};
@@ -136,7 +136,7 @@ fn due(case: &Case, text: Text, line: usize) -> &'static str {
 
 /// A small pair of texts, nine times in ten with one to three damages; never too long.
 fn damaged(r: &mut Rng) -> Case {
-    let n = *r.pick(&[1, 1, 2, 2, 2, 3]);
+    let n = *r.pick(&[1, 2, 2, 2, 3, 3]);
     let m = *r.pick(&[0, 1, 2, 3, 5, 31, 32]);
     let mut d = Draft::random(r, n, m);
     for _ in 0..*r.pick(&[0, 1, 1, 2]) {
@@ -171,6 +171,10 @@ fn long_case(r: &mut Rng, text: Text) -> Case {
     case
 }
 
+fn corner_cases() -> Vec<Case> {
+    corners().into_iter().map(|(plan, policy)| Case { plan, policy }).collect()
+}
+
 fn read_line(c: &Case) -> String {
     match read(&c.plan, &c.policy) {
         Ok(_) => "read".to_string(),
@@ -184,12 +188,16 @@ fn read_corpus(r: &mut Rng, n: usize, long: usize) -> (Vec<u8>, String, Counts) 
         let c = damaged(r);
         let kind = match read(&c.plan, &c.policy) {
             Ok(_) => ("read", 0, "", 0),
-            // number 2 has twice as many places as the others
-            Err((t, f)) => (t.word(), f.number, due(&c, t, f.line), if f.number == 2 { r.below(2) } else { 0 }),
+            // numbers 2, 5 and 6 have more places than the others
+            Err((t, f)) => (t.word(), f.number, due(&c, t, f.line), match f.number {
+                2 => r.below(2),
+                5 | 6 => r.below(3),
+                _ => 0,
+            }),
         };
         buckets.0.entry(kind).or_insert_with(Vec::new).push(c);
     }
-    let mut list = vec![];
+    let mut list = corner_cases();
     for text in [Text::Plan, Text::Policy] {
         list.extend((0..long).map(|_| long_case(r, text)));
         // one byte less is not too long
@@ -320,7 +328,7 @@ fn every_assertion(d: &Draft) -> Vec<Assertion> {
 }
 
 fn judge_corpus(r: &mut Rng, n: usize, long: usize) -> (Vec<u8>, String, Counts) {
-    let mut list = vec![];
+    let mut list = corner_cases();
     // unread: 40 of each number of each text
     let mut unread: BTreeMap<(&str, u8), Buckets<&str>> = BTreeMap::new();
     for _ in 0..20_000 {

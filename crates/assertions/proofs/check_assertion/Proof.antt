@@ -1,0 +1,38 @@
+-- By the kind, which is that of the arm.
+use Rattle.assertions.proofs.Prot.{secrecy-kept, secrecy-17, prot-kind}
+use borrow.Author.Needs.{needs}
+use Rattle.assertions.proofs.check_assertion.Statement.{statement}
+use Rattle.assertions.proofs.check_assertion.Tie as tie
+
+enum-told : tie.Need-enum-told
+enum-told c = search needs
+
+some-serves-requires : tie.Need-some-serves-requires
+some-serves-requires c κs = search needs
+
+returns : tie.Need-returns
+returns c = search secrecy-kept
+
+enum-told-2 : tie.Need-enum-told-2
+enum-told-2 c = search needs
+
+check-prot-requires : tie.Need-check-prot-requires
+check-prot-requires c κs = search needs
+
+returns-2 : tie.Need-returns-2
+returns-2 c = search secrecy-17
+
+returns-3 : tie.Need-returns-3
+returns-3 c = search prot-kind
+
+pub check-assertion-spec : {M : Type 1} → statement M
+check-assertion-spec =
+    tie.close
+    (tie.spec
+    enum-told
+    some-serves-requires
+    returns
+    enum-told-2
+    check-prot-requires
+    returns-2
+    returns-3)

@@ -1,0 +1,54 @@
+-- So far each template keeps it.
+use Prim.Native.Nat.{_-_}
+use borrow.Author.Tests.{not-true, not-false}
+use Rattle.rules.proofs.Walk.{count-fits}
+use Rattle.assertions.proofs.Serving.{KeptSoFar, kept-start, kept-room, kept-more, kept-not, kept-all}
+use native.Mathlib.Omega.{arith}
+use borrow.Author.Needs.{needs}
+use Rattle.assertions.proofs.is_kept.Statement.{statement}
+use Rattle.assertions.proofs.is_kept.Tie as tie
+
+abbrev Inv-loop : tie.InvT-loop
+Inv-loop plan declass t n x₀ x = KeptSoFar plan declass t n x
+
+abbrev μ-loop : tie.MeasureT-loop
+μ-loop plan declass t n x₀ x = n - x
+
+cast-n : tie.Need-cast-n Inv-loop μ-loop
+cast-n c = search count-fits
+
+loop-holds : tie.Need-loop-holds Inv-loop μ-loop
+loop-holds c = search kept-start
+
+keeps-requires : tie.Need-keeps-requires Inv-loop μ-loop
+keeps-requires c κs = search needs
+
+returns : tie.Need-returns Inv-loop μ-loop
+returns c = search (kept-not, not-true)
+
+add-x : tie.Need-add-x Inv-loop μ-loop
+add-x c = search kept-room
+
+loop-less : tie.Need-loop-less Inv-loop μ-loop
+loop-less c = omega arith
+
+loop-again : tie.Need-loop-again Inv-loop μ-loop
+loop-again c = search (kept-more, not-false)
+
+returns-2 : tie.Need-returns-2 Inv-loop μ-loop
+returns-2 c = search kept-all
+
+pub is-kept-spec : {M : Type 1} → statement M
+is-kept-spec =
+    tie.close
+    (tie.spec
+    Inv-loop
+    μ-loop
+    cast-n
+    loop-holds
+    keeps-requires
+    returns
+    add-x
+    loop-less
+    loop-again
+    returns-2)

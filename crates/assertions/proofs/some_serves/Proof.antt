@@ -1,0 +1,48 @@
+-- So far none serves.
+use Prim.Native.Nat.{_-_}
+use Rattle.assertions.proofs.Serving.{NoneServes, none-start, none-room, none-more, one-serves, none-serves}
+use native.Mathlib.Omega.{arith}
+use borrow.Author.Needs.{needs}
+use Rattle.assertions.proofs.some_serves.Statement.{statement}
+use Rattle.assertions.proofs.some_serves.Tie as tie
+
+abbrev Inv-loop : tie.InvT-loop
+Inv-loop plan a m t₀ t = NoneServes plan a t
+
+abbrev μ-loop : tie.MeasureT-loop
+μ-loop plan a m t₀ t = plan .identifiers - t
+
+loop-holds : tie.Need-loop-holds Inv-loop μ-loop
+loop-holds c = search none-start
+
+identifier-serves-requires : tie.Need-identifier-serves-requires Inv-loop μ-loop
+identifier-serves-requires c κs = search needs
+
+returns : tie.Need-returns Inv-loop μ-loop
+returns c = search one-serves
+
+add-t : tie.Need-add-t Inv-loop μ-loop
+add-t c = search none-room
+
+loop-less : tie.Need-loop-less Inv-loop μ-loop
+loop-less c = omega arith
+
+loop-again : tie.Need-loop-again Inv-loop μ-loop
+loop-again c = search none-more
+
+returns-2 : tie.Need-returns-2 Inv-loop μ-loop
+returns-2 c = search none-serves
+
+pub some-serves-spec : {M : Type 1} → statement M
+some-serves-spec =
+    tie.close
+    (tie.spec
+    Inv-loop
+    μ-loop
+    loop-holds
+    identifier-serves-requires
+    returns
+    add-t
+    loop-less
+    loop-again
+    returns-2)

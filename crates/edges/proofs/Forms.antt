@@ -1,0 +1,81 @@
+-- The edges from one template, by the code's answer for its successors; and the loop over the templates.
+use Prim.Native.Nat.{ℕ, zero, suc, _+_, _≤_, _<_}
+use mathlib.Core.Path.{_≡_, refl, sym, ap, subst, _∙_}
+use mathlib.Core.Bool.{Bool, true, false}
+use mathlib.Core.List.{List, [], _∷_}
+use native.Mathlib.Omega.{arith}
+use mir.Syntax.{w8}
+use mir.Val.{Fits}
+use Rattle.plan.specs.declared.Plan.{Plan}
+use Rattle.plan.specs.declared.Template.{Template}
+use Rattle.plan.specs.declared.Successors.{Successors}
+use Rattle.plan.specs.Plan.{at, successors, listFor, listed}
+use Rattle.plan.specs.Range.{InRange}
+use Rattle.rules.specs.declared.Verdict.{Verdict}
+use Rattle.rules.specs.declared.Verdict.the-variants.{Accepted, Broken, Unread}
+use Rattle.rules.specs.Judge.{orElse, firstBelow, firstIn, checkEdge, checkEdges}
+use Rattle.rules.specs.Broken.{accepted}
+use Rattle.rules.proofs.Walk.{accepted-is, below-none, below-more, below-leaves, below-end}
+
+or-last : (v : Verdict) → orElse v Accepted ≡ v
+unfolding orElse
+or-last Accepted = refl
+or-last (Broken b) = refl
+or-last (Unread f) = refl
+
+module _ (plan : Plan) (X : ℕ) (f : ℕ → Verdict) (a : Template) (k : a ≡ at plan X) (s : Successors) (e : listed s ≡ successors (a .form)) where
+  list : listed s ≡ successors (at plan X .form)
+  list = e ∙ ap (λ (x : Template). successors (x .form)) k
+
+  pub none-from : s .count ≡ 0 → Accepted ≡ firstIn (successors (at plan X .form)) f
+  unfolding firstIn
+  none-from h = ap (λ (r : List ℕ). firstIn r f) (sym (ap (λ (n : ℕ). listFor n (s .first) (s .second)) h) ∙ list)
+
+  pub one-from : s .count ≡ 1 → (v : Verdict) → v ≡ f (s .first) → v ≡ firstIn (successors (at plan X .form)) f
+  unfolding firstIn
+  one-from h v q =
+      sym (or-last v) ∙ ap (λ (x : Verdict). orElse x Accepted) q
+      ∙ ap (λ (r : List ℕ). firstIn r f) (sym (ap (λ (n : ℕ). listFor n (s .first) (s .second)) h) ∙ list)
+
+  two : (n : ℕ) → (n ≡ 0 → ⊥) → (n ≡ 1 → ⊥) → listFor n (s .first) (s .second) ≡ s .first ∷ s .second ∷ []
+  two zero h k = absurd (h refl)
+  two (suc zero) h k = absurd (k refl)
+  two (suc (suc n)) h k = refl
+
+  pub two-from : (s .count ≡ 0 → ⊥) → (s .count ≡ 1 → ⊥) → (v w r : Verdict) → r ≡ orElse v w → v ≡ f (s .first) → w ≡ f (s .second) → r ≡ firstIn (successors (at plan X .form)) f
+  unfolding firstIn
+  two-from h k v w r q c d =
+      q ∙ (λ i. orElse (c i) ((d ∙ sym (or-last (f (s .second)))) i))
+      ∙ ap (λ (r : List ℕ). firstIn r f) (sym (two (s .count) h k) ∙ list)
+
+-- ---- all templates
+
+-- What the loop keeps: the edges of the first x templates are accepted.
+pub record Passed (plan : Plan) (n x : ℕ) : Type 0 where
+  pub whole : n ≡ plan .count
+  pub below : x ≤ n
+  pub small : n ≤ 64
+  pub so-far : firstBelow x (λ X. firstIn (successors (at plan X .form)) (checkEdge plan X)) ≡ Accepted
+
+module _ (plan : Plan) where
+  abbrev each : ℕ → Verdict
+  each X = firstIn (successors (at plan X .form)) (checkEdge plan X)
+
+  pub edges-start : InRange plan → Passed plan (plan .count) 0
+  edges-start range = record { whole = refl; below = omega arith; small = range .templates; so-far = below-none each }
+
+  module _ (n x : ℕ) (p : Passed plan n x) where
+    pub edges-room : x < n → Fits w8 (x + 1)
+    edges-room h = let s = p .small in omega arith
+
+    module _ (l : x < n) (v : Verdict) (e : v ≡ each x) (a : Bool) (t : a ≡ accepted v) where
+      pub edges-hit : a ≡ false → v ≡ checkEdges plan
+      unfolding checkEdges
+      edges-hit f = below-leaves (plan .count) each x v (subst (λ (k : ℕ). x < k) (p .whole) l) (p .so-far) e a t f
+
+      pub edges-more : a ≡ true → Passed plan n (x + 1)
+      edges-more f = record { whole = p .whole; below = omega arith; small = p .small; so-far = below-more x each (p .so-far) (sym e ∙ accepted-is v (sym t ∙ f)) }
+
+    pub edges-end : n ≤ x → Accepted ≡ checkEdges plan
+    unfolding checkEdges
+    edges-end h = below-end (plan .count) each x (subst (λ (k : ℕ). x ≤ k) (p .whole) (p .below)) (subst (λ (k : ℕ). k ≤ x) (p .whole) h) (p .so-far)

@@ -1,0 +1,3 @@
+pub mod Offenders
+pub mod Forms
+pub mod Creators

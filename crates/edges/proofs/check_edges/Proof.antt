@@ -1,0 +1,58 @@
+-- The loop leaves at the first template whose edges are not accepted; so far all were.
+use Prim.Native.Nat.{_-_}
+use borrow.Author.Tests.{not-true, not-false}
+use Rattle.rules.proofs.Walk.{count-fits}
+use Rattle.edges.proofs.Forms.{Passed, edges-start, edges-room, edges-more, edges-hit, edges-end}
+use native.Mathlib.Omega.{arith}
+use borrow.Author.Needs.{needs}
+use Rattle.edges.proofs.check_edges.Statement.{statement}
+use Rattle.edges.proofs.check_edges.Tie as tie
+
+abbrev Inv-loop : tie.InvT-loop
+Inv-loop plan n x₀ x = Passed plan n x
+
+abbrev μ-loop : tie.MeasureT-loop
+μ-loop plan n x₀ x = n - x
+
+cast-n : tie.Need-cast-n Inv-loop μ-loop
+cast-n c = search count-fits
+
+loop-holds : tie.Need-loop-holds Inv-loop μ-loop
+loop-holds c = search edges-start
+
+check-edges-from-requires : tie.Need-check-edges-from-requires Inv-loop μ-loop
+check-edges-from-requires c κs = search needs
+
+is-accepted-requires : tie.Need-is-accepted-requires Inv-loop μ-loop
+is-accepted-requires c κs = search needs
+
+returns : tie.Need-returns Inv-loop μ-loop
+returns c = search (edges-hit, not-true)
+
+add-x : tie.Need-add-x Inv-loop μ-loop
+add-x c = search edges-room
+
+loop-less : tie.Need-loop-less Inv-loop μ-loop
+loop-less c = omega arith
+
+loop-again : tie.Need-loop-again Inv-loop μ-loop
+loop-again c = search (edges-more, not-false)
+
+returns-2 : tie.Need-returns-2 Inv-loop μ-loop
+returns-2 c = search edges-end
+
+pub check-edges-spec : {M : Type 1} → statement M
+check-edges-spec =
+    tie.close
+    (tie.spec
+    Inv-loop
+    μ-loop
+    cast-n
+    loop-holds
+    check-edges-from-requires
+    is-accepted-requires
+    returns
+    add-x
+    loop-less
+    loop-again
+    returns-2)

@@ -1,0 +1,98 @@
+// Judges stored pairs of texts: for each a line with the verdict, where the shown part lies and its first bytes.
+use rules::Text;
+use rules::Verdict;
+
+fn print_text(text: Text) {
+    match text {
+        Text::Plan => {
+            console::print(b" plan ");
+        }
+        Text::Policy => {
+            console::print(b" policy ");
+        }
+    }
+}
+
+fn print_verdict(verdict: Verdict) {
+    match verdict {
+        Verdict::Accepted => {
+            console::print(b"accepted");
+        }
+        Verdict::Broken(breach) => {
+            console::print(b"broken ");
+            console::print_number(breach.rule as u64);
+            console::print(b" ");
+            console::print_number(breach.first as u64);
+            console::print(b" ");
+            console::print_number(breach.second as u64);
+            console::print(b" ");
+            console::print_number(breach.identifier as u64);
+        }
+        Verdict::Unread(fault) => {
+            console::print(b"unread");
+            let text = fault.text;
+            print_text(text);
+            console::print_number(fault.number as u64);
+            console::print(b" ");
+            console::print_number(fault.line as u64);
+        }
+    }
+}
+
+// The first 32 bytes at most, each as two digits.
+fn print_bytes(part: &[u8]) {
+    let mut i = 0;
+    while i < part.len() {
+        if 32 <= i {
+            return;
+        }
+        console::print_hex_byte(part[i]);
+        i += 1;
+    }
+}
+
+fn print_case<'a>(plan: &'a [u8], policy: &'a [u8]) {
+    print_verdict(verdict::judge(plan, policy));
+    let part = showing::locate(plan, policy);
+    let text = part.text;
+    print_text(text);
+    console::print_number(part.start as u64);
+    console::print(b" ");
+    console::print_number(part.end as u64);
+    console::print(b" ");
+    print_bytes(showing::show(plan, policy));
+    console::print(b"\n");
+}
+
+// One case of the file; false where there is none left.
+fn one_case(file: i32) -> bool {
+    let mut header: [u8; 8] = [0; 8];
+    if corpus::read_text(file, &mut header, 8) < 8 {
+        return false;
+    }
+    let mut plan = io::large_buffer();
+    let n = corpus::read_text(
+        file,
+        &mut plan,
+        corpus::length_of(header[0], header[1], header[2], header[3]),
+    );
+    let mut policy = io::large_buffer();
+    let m = corpus::read_text(
+        file,
+        &mut policy,
+        corpus::length_of(header[4], header[5], header[6], header[7]),
+    );
+    print_case(&plan[0..n], &policy[0..m]);
+    true
+}
+
+fn main() {
+    let file = os::open_read(b"cases");
+    let mut left: u32 = 100000;
+    while 0 < left {
+        if !one_case(file) {
+            return;
+        }
+        left -= 1;
+    }
+}

@@ -1,0 +1,197 @@
+// The monitor's operations by value. Each takes any state at all and hands back the machine's answer and the machine's
+// state; refused, the very state that it got. The work is done on lent arrays by the crates below: see
+// docs/ARCHITECTURE.md on why no state goes further down by value.
+use machine::Answered;
+use machine::Started;
+use machine::State;
+use plan::Form;
+use plan::Plan;
+use plan::Template;
+ghost use mathlib.Core.Path.{_≡_};
+ghost use mathlib.Core.Logic.{_≢_};
+ghost use Rattle.rules.specs.declared.Verdict.the-variants.{Accepted};
+ghost use Rattle.rules.specs.Judge.{judge};
+ghost use Rattle.machine.specs.Machine.{boxLimits, step, send, raise, lower, run, start};
+ghost use Rattle.machine.specs.State.{machineOf, outcomeOf, blankState, started};
+ghost use Rattle.population.specs.Lent.{ifRefused};
+
+// What stands beside a verdict that is not accepted.
+fn blank_state() -> State
+    ensures { λ r. ⌜ r ≡ blankState ⌝ }
+{
+    let none = [Template {
+        form: Form::End,
+        lab: 0,
+        pos: 0,
+        neg: 0,
+        creates: 0,
+        risk: false,
+    }; 64];
+    let plan = Plan {
+        count: 0,
+        identifiers: 0,
+        templates: none,
+    };
+    let serials = [0u32; 128];
+    let templates = [0u8; 128];
+    let labels = [0u32; 128];
+    let tags = [0u32; 4096];
+    State {
+        plan: plan,
+        next: 0,
+        live: 0,
+        serials: serials,
+        templates: templates,
+        labels: labels,
+        tags: tags,
+    }
+}
+
+// "Serial 0 lives at the root, label lab 0, all tags 0, next serial 1."
+fn root_state(plan: Plan) -> State
+    ensures { λ r. ⌜ machineOf r ≡ start plan ⌝ }
+{
+    let root = plan::template_at(plan, 0);
+    let serials = [0u32; 128];
+    let templates = [0u8; 128];
+    let labels = [root.lab; 128];
+    let tags = [0u32; 4096];
+    State {
+        plan: plan,
+        next: 1,
+        live: 1,
+        serials: serials,
+        templates: templates,
+        labels: labels,
+        tags: tags,
+    }
+}
+
+// Document 01, Start: it "judges both texts and gives the judge's answer if not accepted".
+pub fn start<'a>(plan: &'a [u8], policy: &'a [u8]) -> Started
+    ensures { λ r. ⌜ (r .verdict ≡ judge (now (plan .entry)) (now (policy .entry))) × (machineOf (r .state) ≡ started (now (plan .entry)) (now (policy .entry))) × (r .verdict ≢ Accepted → r .state ≡ blankState) ⌝ }
+{
+    let verdict = verdict::judge(plan, policy);
+    if !rules::is_accepted(verdict) {
+        let blank = blank_state();
+        return Started {
+            verdict: verdict,
+            state: blank,
+        };
+    }
+    let read = reader::read_plan(plan);
+    let templates = read.plan;
+    let state = root_state(templates);
+    Started {
+        verdict: verdict,
+        state: state,
+    }
+}
+
+// Document 01, Step.
+pub fn step(state: State, serial: u32, branch: u32) -> Answered
+    ensures { λ r. ⌜ (outcomeOf r ≡ run boxLimits (machineOf state) (step serial branch)) × ifRefused (r .answer) (r .state ≡ state) ⌝ }
+{
+    let plan = state.plan;
+    let mut serials = state.serials;
+    let mut templates = state.templates;
+    let mut labels = state.labels;
+    let mut tags = state.tags;
+    let r = stepping::step(
+        plan,
+        state.next,
+        state.live,
+        &mut serials,
+        &mut templates,
+        &mut labels,
+        &mut tags,
+        serial,
+        branch,
+    );
+    let after = State {
+        plan: plan,
+        next: r.next,
+        live: r.live,
+        serials: serials,
+        templates: templates,
+        labels: labels,
+        tags: tags,
+    };
+    let answer = r.answer;
+    Answered {
+        answer: answer,
+        state: after,
+    }
+}
+
+// Document 01, Send. "The state stays."
+pub fn send(state: State, from: u32, to: u32) -> Answered
+    ensures { λ r. ⌜ (outcomeOf r ≡ run boxLimits (machineOf state) (send from to)) × (r .state ≡ state) ⌝ }
+{
+    let plan = state.plan;
+    let answer = delivery::send(
+        plan,
+        state.next,
+        state.live,
+        &state.serials,
+        &state.templates,
+        &state.labels,
+        &state.tags,
+        from,
+        to,
+    );
+    Answered {
+        answer: answer,
+        state: state,
+    }
+}
+
+// Document 01, Raise.
+pub fn raise(state: State, serial: u32, identifier: u32) -> Answered
+    ensures { λ r. ⌜ (outcomeOf r ≡ run boxLimits (machineOf state) (raise serial identifier)) × ifRefused (r .answer) (r .state ≡ state) ⌝ }
+{
+    let plan = state.plan;
+    let mut labels = state.labels;
+    let answer = labelling::raise(
+        plan,
+        state.next,
+        state.live,
+        &state.serials,
+        &state.templates,
+        &mut labels,
+        &state.tags,
+        serial,
+        identifier,
+    );
+    let mut raised = state;
+    raised.labels = labels;
+    Answered {
+        answer: answer,
+        state: raised,
+    }
+}
+
+// Document 01, Lower.
+pub fn lower(state: State, serial: u32, identifier: u32) -> Answered
+    ensures { λ r. ⌜ (outcomeOf r ≡ run boxLimits (machineOf state) (lower serial identifier)) × ifRefused (r .answer) (r .state ≡ state) ⌝ }
+{
+    let plan = state.plan;
+    let mut labels = state.labels;
+    let answer = labelling::lower(
+        plan,
+        state.next,
+        state.live,
+        &state.serials,
+        &state.templates,
+        &mut labels,
+        &state.tags,
+        serial,
+        identifier,
+    );
+    let mut lowered = state;
+    lowered.labels = labels;
+    Answered {
+        answer: answer,
+        state: lowered,
+    }
+}

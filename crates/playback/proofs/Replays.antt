@@ -1,0 +1,58 @@
+-- What replay hands back, as the code meets it: v and s are what start gave, and g whether v is accepted.
+use Prim.Native.Nat.{ℕ, _/_, min}
+use mathlib.Core.Path.{_≡_, refl, sym, ap, subst, _∙_}
+use mathlib.Core.Logic.{_≢_}
+use mathlib.Core.Bool.{Bool, true, false, not}
+use mathlib.Core.List.{List}
+use lib.ListN.{length}
+use borrow.Author.Tests.{not-true, not-false}
+use Rattle.text.specs.Reading.{readPlan}
+use Rattle.rules.specs.declared.Verdict.{Verdict}
+use Rattle.rules.specs.declared.Verdict.the-variants.{Accepted, Broken, Unread}
+use Rattle.rules.specs.Judge.{judge}
+use Rattle.rules.specs.Broken.{accepted}
+use Rattle.machine.specs.declared.State.{State}
+use Rattle.machine.specs.Machine.{Machine, start}
+use Rattle.machine.specs.State.{machineOf, blankState, startOn, started}
+use Rattle.monitor.proofs.Starting.{is-accepted, not-accepted}
+use Rattle.promise.specs.Replay.{callsIn}
+use Rattle.promise.proofs.Box.{box-promise}
+use Rattle.playback.specs.Playback.{Played, playable, Replays}
+
+none-playable : (v : Verdict) → v ≢ Accepted → (words places : ℕ) → 0 ≡ playable v words places
+unfolding playable
+none-playable Accepted n words places = absurd (n refl)
+none-playable (Broken b) n words places = refl
+none-playable (Unread f) n words places = refl
+
+module _ (planText policyText words before : List ℕ) (v : Verdict) (s : State)
+    (w : (v ≡ judge planText policyText) × (machineOf s ≡ started planText policyText) × (v ≢ Accepted → s ≡ blankState))
+    (g : Bool) (eg : g ≡ accepted v) where
+  pub replays-not : not g ≡ true → Replays planText policyText words before v 0 s before
+  replays-not h =
+      let n : v ≢ Accepted = not-accepted v (sym eg ∙ not-true g h) in
+      record {
+        judged = w .0;
+        counted = none-playable v n (length words) (length before);
+        played = λ a. absurd (n a);
+        promised = λ a. absurd (n a);
+        untouched = λ n. (w .2 n, refl);
+      }
+
+  -- The started machine, of an accepted verdict.
+  begun : v ≡ Accepted → machineOf s ≡ start (readPlan planText .plan)
+  unfolding started startOn
+  begun a = w .1 ∙ ap (λ (v : Verdict). startOn v (readPlan planText .plan)) (sym (w .0) ∙ a)
+
+  pub replays-so : not g ≡ false → (n : ℕ) → n ≡ min (length words / 3) (length before) → (s′ : State) (after : List ℕ)
+      → Played (machineOf s) n words before (machineOf s′) after → Replays planText policyText words before v n s′ after
+  unfolding playable
+  replays-so h n en s′ after p =
+      let a : v ≡ Accepted = is-accepted v (sym eg ∙ not-false g h) in
+      record {
+        judged = w .0;
+        counted = en ∙ ap (λ (v : Verdict). playable v (length words) (length before)) (sym a);
+        played = λ a. subst (λ (m : Machine). Played m n words before (machineOf s′) after) (begun a) p;
+        promised = λ a. box-promise planText policyText (sym (w .0) ∙ a) (callsIn n words);
+        untouched = λ o. absurd (o a);
+      }

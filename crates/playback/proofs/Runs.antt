@@ -1,0 +1,135 @@
+-- Laws of a list of calls, as the code meets them.
+use Prim.Native.Nat.{ℕ, zero, suc, _+_, _-_, _*_, _≤_, _<_}
+use mathlib.Core.Path.{_≡_, refl, sym, ap, _∙_}
+use mathlib.Core.List.{List}
+use native.Mathlib.Nat.{not-suc-le-zero, le-of-suc-le-suc}
+use native.Mathlib.Numerals.{add-one}
+use native.Mathlib.Omega.{arith}
+use lib.ListN.{length, getD, set, length-set}
+use lib.Seq.{getD-set-other}
+use Rattle.lists.specs.Numbers.{tabulate}
+use Rattle.plan.specs.declared.Plan.{Plan}
+use Rattle.machine.specs.declared.Answer.{Answer}
+use Rattle.machine.specs.declared.Answer.the-variants.{Done}
+use Rattle.machine.specs.Machine.{Machine, Outcome, boxLimits, Call, step, send, raise, lower, run}
+use Rattle.machine.specs.State.{Cells, machineFrom}
+use Rattle.population.specs.Lent.{outcomeFrom, Did}
+use Rattle.population.proofs.Loops.{filled-more}
+use Rattle.promise.specs.Replay.{machineAfter, answers, callOf, callsIn, codeOf}
+use Rattle.playback.specs.Taking.{Took}
+use Rattle.playback.specs.Playback.{Played}
+
+-- ---- one call
+
+call-lower : (o x y : ℕ) → (o ≡ 0 → ⊥) → (o ≡ 1 → ⊥) → (o ≡ 2 → ⊥) → callOf o x y ≡ lower x y
+unfolding callOf
+call-lower zero x y e f g = absurd (e refl)
+call-lower (suc zero) x y e f g = absurd (f refl)
+call-lower (suc (suc zero)) x y e f g = absurd (g refl)
+call-lower (suc (suc (suc n))) x y e f g = refl
+
+call-step : (o x y : ℕ) → o ≡ 0 → callOf o x y ≡ step x y
+unfolding callOf
+call-step o x y e = ap (λ (o : ℕ). callOf o x y) e
+
+call-send : (o x y : ℕ) → o ≡ 1 → callOf o x y ≡ send x y
+unfolding callOf
+call-send o x y e = ap (λ (o : ℕ). callOf o x y) e
+
+call-raise : (o x y : ℕ) → o ≡ 2 → callOf o x y ≡ raise x y
+unfolding callOf
+call-raise o x y e = ap (λ (o : ℕ). callOf o x y) e
+
+module _ (plan : Plan) (next live : ℕ) (c : Cells) (o x y : ℕ) (a : Answer) (q : ℕ) (eq : q ≡ codeOf a) where
+  took : (next′ live′ : ℕ) (d : Cells) (call : Call) → callOf o x y ≡ call
+      → outcomeFrom a plan next′ live′ d ≡ run boxLimits (machineFrom plan next live c) call
+      → Took (machineFrom plan next′ live′ d) q (run boxLimits (machineFrom plan next live c) (callOf o x y))
+  took next′ live′ d call e w =
+      let t = w ∙ ap (run boxLimits (machineFrom plan next live c)) (sym e) in
+      record { machine = ap (λ (t : Outcome). t .machine) t; code = eq ∙ ap (λ (t : Outcome). codeOf (t .answer)) t }
+
+  pub took-step : (next′ live′ : ℕ) (d : Cells) → o ≡ 0 → Did plan next live c a next′ live′ d (run boxLimits (machineFrom plan next live c) (step x y))
+      → Took (machineFrom plan next′ live′ d) q (run boxLimits (machineFrom plan next live c) (callOf o x y))
+  took-step next′ live′ d e w = took next′ live′ d (step x y) (call-step o x y e) (w .means)
+
+  pub took-send : o ≡ 1 → outcomeFrom a plan next live c ≡ run boxLimits (machineFrom plan next live c) (send x y)
+      → Took (machineFrom plan next live c) q (run boxLimits (machineFrom plan next live c) (callOf o x y))
+  took-send e w = took next live c (send x y) (call-send o x y e) w
+
+  pub took-raise : (d : Cells) → o ≡ 2 → Did plan next live c a next live d (run boxLimits (machineFrom plan next live c) (raise x y))
+      → Took (machineFrom plan next live d) q (run boxLimits (machineFrom plan next live c) (callOf o x y))
+  took-raise d e w = took next live d (raise x y) (call-raise o x y e) (w .means)
+
+  pub took-lower : (d : Cells) → (o ≡ 0 → ⊥) → (o ≡ 1 → ⊥) → (o ≡ 2 → ⊥) → Did plan next live c a next live d (run boxLimits (machineFrom plan next live c) (lower x y))
+      → Took (machineFrom plan next live d) q (run boxLimits (machineFrom plan next live c) (callOf o x y))
+  took-lower d e f g w = took next live d (lower x y) (call-lower o x y e f g) (w .means)
+
+-- ---- the loop
+
+-- Call i of the words.
+abbrev pub callAt : List ℕ → ℕ → Call
+callAt words i = callOf (getD words (i * 3) 0) (getD words (i * 3 + 1) 0) (getD words (i * 3 + 2) 0)
+
+-- The machine after the first i calls.
+unfoldable pub reached : Machine → (ℕ → Call) → ℕ → Machine
+reached m f zero = m
+reached m f (suc i) = run boxLimits (reached m f i) (f i) .machine
+
+reached-next : (m : Machine) (f : ℕ → Call) (i : ℕ) → reached m f (suc i) ≡ reached (run boxLimits m (f zero) .machine) (λ k. f (suc k)) i
+unfolding reached
+reached-next m f zero = refl
+reached-next m f (suc i) = ap (λ (a : Machine). run boxLimits a (f (suc i)) .machine) (reached-next m f i)
+
+all-machine : (m : Machine) (f : ℕ → Call) (n : ℕ) → reached m f n ≡ machineAfter boxLimits m (tabulate n f)
+unfolding reached tabulate machineAfter
+all-machine m f zero = refl
+all-machine m f (suc n) = reached-next m f n ∙ all-machine (run boxLimits m (f zero) .machine) (λ k. f (suc k)) n
+
+all-answers : (m : Machine) (f : ℕ → Call) (n j : ℕ) → j < n
+    → run boxLimits (reached m f j) (f j) .answer ≡ getD (answers boxLimits m (tabulate n f)) j Done
+unfolding reached tabulate answers
+all-answers m f zero j h = absurd (not-suc-le-zero h)
+all-answers m f (suc n) zero h = refl
+all-answers m f (suc n) (suc j) h =
+    ap (λ (a : Machine). run boxLimits a (f (suc j)) .answer) (reached-next m f j)
+    ∙ all-answers (run boxLimits m (f zero) .machine) (λ k. f (suc k)) n j (le-of-suc-le-suc h)
+
+-- Where the loop stands before call i, at the machine a with the row `out` of answers.
+pub record Stands (m : Machine) (f : ℕ → Call) (n i : ℕ) (old : List ℕ) (a : Machine) (out : List ℕ) : Type 0 where
+  pub few : i ≤ n
+  pub room : length out ≡ length old
+  pub machine : a ≡ reached m f i
+  pub each : (j : ℕ) → j < i → getD out j 0 ≡ codeOf (run boxLimits (reached m f j) (f j) .answer)
+  pub rest : (j : ℕ) → i ≤ j → getD out j 0 ≡ getD old j 0
+
+module _ (m : Machine) (f : ℕ → Call) (n : ℕ) where
+  pub stands-none : (out : List ℕ) → Stands m f n 0 out m out
+  unfolding reached
+  stands-none out = record { few = omega arith; room = refl; machine = refl; each = λ j h. absurd (not-suc-le-zero h); rest = λ j h. refl }
+
+  module _ (i : ℕ) (old : List ℕ) (a : Machine) (out : List ℕ) (s : Stands m f n i old a out) where
+    pub stands-more : (a′ : Machine) (q : ℕ) → i < n → n ≤ length old → Took a′ q (run boxLimits a (f i)) → Stands m f n (i + 1) old a′ (set out i q)
+    unfolding reached
+    stands-more a′ q h l w =
+        let r = s .room in
+        record {
+          few = omega arith;
+          room = simp length-set r;
+          machine = w .machine ∙ ap (λ (a : Machine). run boxLimits a (f i) .machine) (s .machine) ∙ ap (reached m f) (sym (add-one i));
+          each = filled-more (λ j. codeOf (run boxLimits (reached m f j) (f j) .answer)) out i q (omega arith)
+              (w .code ∙ ap (λ (a : Machine). codeOf (run boxLimits a (f i) .answer)) (s .machine)) (s .each);
+          rest = λ j g. getD-set-other out i j q 0 (λ w. omega arith) ∙ s .rest j (omega arith);
+        }
+
+module _ (m : Machine) (words : List ℕ) (n i : ℕ) (old : List ℕ) (a : Machine) (out : List ℕ) where
+  -- Past the last call.
+  pub played : Stands m (callAt words) n i old a out → n ≤ i → Played m n words old a out
+  unfolding callsIn
+  played s h =
+      let l = s .few in
+      let q : i ≡ n = omega arith in
+      record {
+        machine = s .machine ∙ ap (reached m (callAt words)) q ∙ all-machine m (callAt words) n;
+        each = λ j k. s .each j (omega arith) ∙ ap codeOf (all-answers m (callAt words) n j k);
+        rest = λ j k. s .rest j (omega arith);
+      }

@@ -1,0 +1,209 @@
+// A list of calls, three words each: on lent arrays, and from the two texts.
+use machine::Answer;
+use machine::State;
+use plan::Plan;
+use rules::Verdict;
+ghost use mathlib.Core.Path.{_≡_};
+ghost use Prim.Native.Nat.{_≤_, _*_, _/_, min};
+ghost use lib.ListN.{length};
+ghost use Rattle.machine.specs.Machine.{boxLimits, run};
+ghost use Rattle.machine.specs.State.{machineFrom};
+ghost use Rattle.population.specs.Arrays.{cells};
+ghost use Rattle.promise.specs.Replay.{callOf, codeOf};
+ghost use Rattle.playback.specs.Taking.{Took};
+ghost use Rattle.playback.specs.Playback.{Played, Replays};
+
+// The first word of a call: its kind. Any other number is a lower.
+pub const STEP: u32 = 0;
+
+pub const SEND: u32 = 1;
+
+pub const RAISE: u32 = 2;
+
+// A call's answer as a number, and what it leaves beside the arrays.
+struct Taken {
+    code: u8,
+    next: u32,
+    live: usize,
+}
+
+// What a list of calls leaves beside the arrays.
+pub struct Place {
+    pub next: u32,
+    pub live: usize,
+}
+
+// 0 done, 1 delivered, 2 held, and a refusal's own number.
+fn code_of(answer: Answer) -> u8
+    ensures { λ r. ⌜ r ≡ codeOf answer ⌝ }
+{
+    match answer {
+        Answer::Done => 0,
+        Answer::Delivered => 1,
+        Answer::Held => 2,
+        Answer::Refused(number) => number,
+    }
+}
+
+// One call.
+fn take_call<'a>(
+    plan: Plan,
+    next: u32,
+    live: usize,
+    serials: &'a mut [u32; 128],
+    templates: &'a mut [u8; 128],
+    labels: &'a mut [u32; 128],
+    tags: &'a mut [u32; 4096],
+    kind: u32,
+    x: u32,
+    y: u32,
+) -> Taken
+    ensures { λ r.
+        let c = cells (now (serials .entry)) (now (templates .entry)) (now (labels .entry)) (now (tags .entry)) in
+        let d = cells (now (serials .exit)) (now (templates .exit)) (now (labels .exit)) (now (tags .exit)) in
+        ⌜ Took (machineFrom plan (r .next) (r .live) d) (r .code) (run boxLimits (machineFrom plan next live c) (callOf kind x y)) ⌝ }
+{
+    if kind == STEP {
+        let r = stepping::step(plan, next, live, serials, templates, labels, tags, x, y);
+        let answer = r.answer;
+        return Taken {
+            code: code_of(answer),
+            next: r.next,
+            live: r.live,
+        };
+    }
+    if kind == SEND {
+        let answer = delivery::send(plan, next, live, serials, templates, labels, tags, x, y);
+        return Taken {
+            code: code_of(answer),
+            next: next,
+            live: live,
+        };
+    }
+    if kind == RAISE {
+        let answer = labelling::raise(plan, next, live, serials, templates, labels, tags, x, y);
+        return Taken {
+            code: code_of(answer),
+            next: next,
+            live: live,
+        };
+    }
+    let answer = labelling::lower(plan, next, live, serials, templates, labels, tags, x, y);
+    Taken {
+        code: code_of(answer),
+        next: next,
+        live: live,
+    }
+}
+
+// The first n calls, in order.
+pub fn run_calls<'a>(
+    plan: Plan,
+    next: u32,
+    live: usize,
+    serials: &'a mut [u32; 128],
+    templates: &'a mut [u8; 128],
+    labels: &'a mut [u32; 128],
+    tags: &'a mut [u32; 4096],
+    calls: &'a [u32],
+    n: usize,
+    answers: &'a mut [u8],
+) -> Place
+    requires { ⌜ (n * 3 ≤ length (now calls)) × (n ≤ length (now answers)) ⌝ }
+    ensures { λ r.
+        let c = cells (now (serials .entry)) (now (templates .entry)) (now (labels .entry)) (now (tags .entry)) in
+        let d = cells (now (serials .exit)) (now (templates .exit)) (now (labels .exit)) (now (tags .exit)) in
+        ⌜ Played (machineFrom plan next live c) n (now (calls .entry)) (now (answers .entry)) (machineFrom plan (r .next) (r .live) d) (now (answers .exit)) ⌝ }
+{
+    let mut z = next;
+    let mut l = live;
+    let mut i: usize = 0;
+    while i < n {
+        let r = take_call(
+            plan,
+            z,
+            l,
+            serials,
+            templates,
+            labels,
+            tags,
+            calls[i * 3],
+            calls[i * 3 + 1],
+            calls[i * 3 + 2],
+        );
+        z = r.next;
+        l = r.live;
+        answers[i] = r.code;
+        i += 1;
+    }
+    Place { next: z, live: l }
+}
+
+// What replay hands back: the judge's verdict, how many calls were played, and the state after them, blank where the
+// verdict is not accepted.
+pub struct Replayed {
+    pub verdict: Verdict,
+    pub count: usize,
+    pub state: State,
+}
+
+// How many calls so many words hold, and no more than there are places for their answers.
+fn call_count(words: usize, places: usize) -> usize
+    ensures { λ r. ⌜ r ≡ min (words / 3) places ⌝ }
+{
+    let calls = words / 3;
+    if calls < places { calls } else { places }
+}
+
+// Both texts judged, the box started, and the calls run through it, the answers written to the row.
+pub fn replay<'a>(
+    plan: &'a [u8],
+    policy: &'a [u8],
+    calls: &'a [u32],
+    answers: &'a mut [u8],
+) -> Replayed
+    ensures { λ r. ⌜ Replays (now (plan .entry)) (now (policy .entry)) (now (calls .entry)) (now (answers .entry)) (r .verdict) (r .count) (r .state) (now (answers .exit)) ⌝ }
+{
+    let started = monitor::start(plan, policy);
+    let verdict = started.verdict;
+    let state = started.state;
+    if !rules::is_accepted(verdict) {
+        return Replayed {
+            verdict: verdict,
+            count: 0,
+            state: state,
+        };
+    }
+    let n = call_count(calls.len(), answers.len());
+    let read = state.plan;
+    let mut serials = state.serials;
+    let mut templates = state.templates;
+    let mut labels = state.labels;
+    let mut tags = state.tags;
+    let r = run_calls(
+        read,
+        state.next,
+        state.live,
+        &mut serials,
+        &mut templates,
+        &mut labels,
+        &mut tags,
+        calls,
+        n,
+        answers,
+    );
+    let after = State {
+        plan: read,
+        next: r.next,
+        live: r.live,
+        serials: serials,
+        templates: templates,
+        labels: labels,
+        tags: tags,
+    };
+    Replayed {
+        verdict: verdict,
+        count: n,
+        state: after,
+    }
+}

@@ -1,0 +1,4 @@
+pub mod Rows
+pub mod Loops
+pub mod Fits
+pub mod Lent

@@ -1,0 +1,110 @@
+-- The turns of the loops that write: `shifted`, `written`, and a list that is filled from its front.
+use Prim.Native.Nat.{ℕ, _+_, _-_, _≤_, _<_}
+use mathlib.Core.Path.{_≡_, sym, ap, _∙_}
+use mathlib.Core.Bool.{and-false}
+use mathlib.Core.Logic.{⊎-elim}
+use mathlib.Core.List.{List}
+use native.Mathlib.Omega.{arith}
+use lib.ListN.{length, getD, set}
+use lib.Seq.{getD-set-same, getD-set-other, ext-getD}
+use lib.Dec.{leb}
+use borrow.Author.Tests.{lt-ltb, le-ltb, le-leb, lt-leb}
+use Rattle.lists.specs.Numbers.{tabulate}
+use Rattle.lists.proofs.Tests.{lt-or-le}
+use Rattle.lists.proofs.Tabulate.{length-tabulate, getD-tabulate}
+use Rattle.population.specs.Arrays.{shifted, written}
+
+-- ---- `shifted`
+
+module _ (xs : List ℕ) (from to by : ℕ) where
+  pub shifted-in : (j : ℕ) → from ≤ j → j < to → shifted xs from to by j ≡ getD xs (j + by) 0
+  unfolding shifted
+  shifted-in j h l = rw (le-leb from j h, lt-ltb j to l)
+
+  pub shifted-below : (j : ℕ) → j < from → shifted xs from to by j ≡ getD xs j 0
+  unfolding shifted
+  shifted-below j h = rw (lt-leb from j h)
+
+  pub shifted-above : (j : ℕ) → to ≤ j → shifted xs from to by j ≡ getD xs j 0
+  unfolding shifted
+  shifted-above j h = rw (le-ltb j to h, and-false (leb from j))
+
+pub shifted-none : (xs : List ℕ) (from by j : ℕ) → getD xs j 0 ≡ shifted xs from from by j
+shifted-none xs from by j =
+    ⊎-elim (λ l. sym (shifted-below xs from from by j l)) (λ h. sym (shifted-above xs from from by j h)) (lt-or-le j from)
+
+-- One turn: place i takes what stands `by` places further on, where nothing was written yet.
+pub shifted-more : (xs₀ xs : List ℕ) (from i by : ℕ) → from ≤ i → i < length xs → ((j : ℕ) → getD xs j 0 ≡ shifted xs₀ from i by j)
+    → (j : ℕ) → getD (set xs i (getD xs (i + by) 0)) j 0 ≡ shifted xs₀ from (i + 1) by j
+unfolding shifted
+shifted-more xs₀ xs from i by h l e j = ⊎-elim below (λ q. ⊎-elim (λ r. at (omega arith)) above (lt-or-le j (i + 1))) (lt-or-le j i)
+  where
+    same : (j ≡ i → ⊥) → shifted xs₀ from i by j ≡ shifted xs₀ from (i + 1) by j
+        → getD (set xs i (getD xs (i + by) 0)) j 0 ≡ shifted xs₀ from (i + 1) by j
+    same n m = getD-set-other xs i j (getD xs (i + by) 0) 0 n ∙ e j ∙ m
+
+    below : j < i → getD (set xs i (getD xs (i + by) 0)) j 0 ≡ shifted xs₀ from (i + 1) by j
+    below k = same (λ q. omega arith) (rw (lt-ltb j i k, lt-ltb j (i + 1) (omega arith)))
+
+    above : i + 1 ≤ j → getD (set xs i (getD xs (i + by) 0)) j 0 ≡ shifted xs₀ from (i + 1) by j
+    above k = same (λ q. omega arith) (rw (le-ltb j i (omega arith), le-ltb j (i + 1) k))
+
+    at : j ≡ i → getD (set xs i (getD xs (i + by) 0)) j 0 ≡ shifted xs₀ from (i + 1) by j
+    at q =
+        ap (λ (k : ℕ). getD (set xs i (getD xs (i + by) 0)) k 0) q
+        ∙ getD-set-same xs i (getD xs (i + by) 0) 0 l
+        ∙ e (i + by) ∙ shifted-above xs₀ from i by (i + by) (omega arith)
+        ∙ sym (ap (shifted xs₀ from (i + 1) by) q ∙ shifted-in xs₀ from (i + 1) by i h (omega arith))
+
+-- ---- `written`
+
+module _ (xs : List ℕ) (from n : ℕ) (f : ℕ → ℕ) where
+  pub written-in : (j : ℕ) → from ≤ j → j < from + n → written xs from n f j ≡ f (j - from)
+  unfolding written
+  written-in j h l = rw (le-leb from j h, lt-ltb j (from + n) l)
+
+  pub written-below : (j : ℕ) → j < from → written xs from n f j ≡ getD xs j 0
+  unfolding written
+  written-below j h = rw (lt-leb from j h)
+
+  written-above : (j : ℕ) → from + n ≤ j → written xs from n f j ≡ getD xs j 0
+  unfolding written
+  written-above j h = rw (le-ltb j (from + n) h, and-false (leb from j))
+
+pub written-none : (xs : List ℕ) (from : ℕ) (f : ℕ → ℕ) (j : ℕ) → getD xs j 0 ≡ written xs from 0 f j
+written-none xs from f j =
+    ⊎-elim (λ l. sym (written-below xs from 0 f j l)) (λ h. sym (written-above xs from 0 f j (omega arith))) (lt-or-le j from)
+
+-- One turn: the place after those written takes its value.
+pub written-more : (xs₀ xs : List ℕ) (from i : ℕ) (f : ℕ → ℕ) (v : ℕ) → from + i < length xs → v ≡ f i → ((j : ℕ) → getD xs j 0 ≡ written xs₀ from i f j)
+    → (j : ℕ) → getD (set xs (from + i) v) j 0 ≡ written xs₀ from (i + 1) f j
+unfolding written
+written-more xs₀ xs from i f v l q e j =
+    ⊎-elim below (λ h. ⊎-elim (λ r. here (omega arith)) above (lt-or-le j (from + i + 1))) (lt-or-le j (from + i))
+  where
+    same : (j ≡ from + i → ⊥) → written xs₀ from i f j ≡ written xs₀ from (i + 1) f j → getD (set xs (from + i) v) j 0 ≡ written xs₀ from (i + 1) f j
+    same n m = getD-set-other xs (from + i) j v 0 n ∙ e j ∙ m
+
+    below : j < from + i → getD (set xs (from + i) v) j 0 ≡ written xs₀ from (i + 1) f j
+    below k = same (λ r. omega arith) (rw (lt-ltb j (from + i) k, lt-ltb j (from + (i + 1)) (omega arith)))
+
+    above : from + i + 1 ≤ j → getD (set xs (from + i) v) j 0 ≡ written xs₀ from (i + 1) f j
+    above k = same (λ r. omega arith) (rw (le-ltb j (from + i) (omega arith), le-ltb j (from + (i + 1)) (omega arith)))
+
+    here : j ≡ from + i → getD (set xs (from + i) v) j 0 ≡ written xs₀ from (i + 1) f j
+    here r =
+        ap (λ (k : ℕ). getD (set xs (from + i) v) k 0) r ∙ getD-set-same xs (from + i) v 0 l ∙ q
+        ∙ ap f (omega arith) ∙ sym (written-in xs₀ from (i + 1) f j (omega arith) (omega arith))
+
+-- ---- a list that is filled from its front
+
+pub filled-more : (f : ℕ → ℕ) (xs : List ℕ) (i v : ℕ) → i < length xs → v ≡ f i → ((j : ℕ) → j < i → getD xs j 0 ≡ f j)
+    → (j : ℕ) → j < i + 1 → getD (set xs i v) j 0 ≡ f j
+filled-more f xs i v l q e j h =
+    ⊎-elim (λ k. getD-set-other xs i j v 0 (λ r. omega arith) ∙ e j k)
+    (λ k. let r : j ≡ i = omega arith in ap (λ (k : ℕ). getD (set xs i v) k 0) r ∙ getD-set-same xs i v 0 l ∙ q ∙ ap f (sym r)) (lt-or-le j i)
+
+pub filled-all : (f : ℕ → ℕ) (xs : List ℕ) (n : ℕ) → length xs ≡ n → ((j : ℕ) → j < n → getD xs j 0 ≡ f j) → xs ≡ tabulate n f
+filled-all f xs n q e =
+    ext-getD 0 xs (tabulate n f) (q ∙ sym (length-tabulate n f))
+    (λ i h. let h′ : i < n = omega arith in e i h′ ∙ sym (getD-tabulate n f i 0 h′))

@@ -1,0 +1,47 @@
+-- Where a row of tags lies: M tags for each of at most 128 places, M at most 32.
+use Prim.Native.Nat.{ℕ, suc, _+_, _-_, _*_, _^_, _≤_, _<_}
+use mathlib.Core.Path.{_≡_}
+use native.Mathlib.Nat.{mul-le-mul, suc-mul, le-refl}
+use native.Mathlib.Omega.{arith}
+use lib.Pow.{pow-pos, pow-mono}
+use mir.Val.{Fits}
+use mir.Syntax.{w32, w64}
+
+pub row-top : (p m : ℕ) → p ≤ 128 → m ≤ 32 → p * m ≤ 4096
+row-top p m h l = mul-le-mul h l
+
+pub row-small : (p m : ℕ) → p ≤ 128 → m ≤ 32 → Fits w64 (p * m)
+row-small p m h l = let q = row-top p m h l in omega arith
+
+-- 32 tags from the row of a process on are there.
+pub row-room : (p m : ℕ) → p < 128 → m ≤ 32 → p * m + 32 ≤ 4096
+row-room p m h l = let q : p * m ≤ 127 * 32 = mul-le-mul {n₂ = 127} (omega arith) l in omega arith
+
+-- The row of a lower place ends before that of a higher one begins.
+pub row-under : (m i k : ℕ) → i < k → i * m + m ≤ k * m
+row-under m i k h = let q : suc i * m ≤ k * m = mul-le-mul h (le-refl m) in let s = suc-mul i m in omega arith
+
+pub row-over : (m i k : ℕ) → k ≤ i → k * m ≤ i * m
+row-over m i k h = mul-le-mul h (le-refl m)
+
+-- One tag of a row.
+module _ (p m r i : ℕ) (e : r ≡ p * m) (h : p < 128) (l : m ≤ 32) (k : i < m) where
+  pub row-at : r + i < 4096
+  row-at = let q = row-room p m h l in omega arith
+
+  pub row-fits : Fits w64 (r + i)
+  row-fits = let q = row-at in omega arith
+
+  pub row-scaled : Fits w64 ((r + i) * 4)
+  row-scaled = let q = row-at in omega arith
+
+-- The greatest mask of m identifiers.
+module _ (m r : ℕ) (h : m ≤ 32) (e : r ≡ 2 ^ m) where
+  pub mask-some : 1 ≤ r
+  mask-some = let q = pow-pos m in omega arith
+
+  pub mask-top : Fits w32 (r - 1)
+  mask-top = let q : 2 ^ m ≤ 2 ^ 32 = pow-mono h in let s = mask-some in omega arith
+
+  pub mask-next : r - 1 + 1 ≡ 2 ^ m
+  mask-next = let s = mask-some in omega arith

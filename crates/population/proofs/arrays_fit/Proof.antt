@@ -1,0 +1,42 @@
+-- The five tests are the definition's, the masks' limit and the tags' count as the code has them.
+use borrow.Author.Needs.{needs}
+use Rattle.population.proofs.Fits.{arrays-gathered}
+use Rattle.population.proofs.arrays_fit.Statement.{statement}
+use Rattle.population.proofs.arrays_fit.Tie as tie
+
+full-mask-requires : tie.Need-full-mask-requires
+full-mask-requires c κs = search needs
+
+row-start-requires : tie.Need-row-start-requires
+row-start-requires c κs = search needs
+
+is-rising-requires : tie.Need-is-rising-requires
+is-rising-requires c κs = search needs
+
+all-below-requires : tie.Need-all-below-requires
+all-below-requires c κs = search needs
+
+all-below-u8-requires : tie.Need-all-below-u8-requires
+all-below-u8-requires c κs = search needs
+
+none-above-requires : tie.Need-none-above-requires
+none-above-requires c κs = search needs
+
+all-below-requires-2 : tie.Need-all-below-requires-2
+all-below-requires-2 c κs = search needs
+
+returns : tie.Need-returns
+returns c = search arrays-gathered
+
+pub arrays-fit-spec : {M : Type 1} → statement M
+arrays-fit-spec =
+    tie.close
+    (tie.spec
+    full-mask-requires
+    row-start-requires
+    is-rising-requires
+    all-below-requires
+    all-below-u8-requires
+    none-above-requires
+    all-below-requires-2
+    returns)

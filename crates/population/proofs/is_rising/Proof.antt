@@ -1,0 +1,68 @@
+-- The loop has gathered the test of the numbers that it passed; the measure is how many are left.
+use Prim.Native.Nat.{_+_, _-_, _≤_}
+use mathlib.Core.Path.{_≡_, sym}
+use native.Mathlib.Omega.{arith}
+use lib.Dec.{ltb}
+use lib.ListN.{getD}
+use borrow.Author.Needs.{needs}
+use Rattle.lists.specs.Numbers.{every}
+use Rattle.lists.proofs.Every.{every-none, every-acc}
+use Rattle.population.proofs.is_rising.Statement.{statement}
+use Rattle.population.proofs.is_rising.Tie as tie
+
+abbrev Inv-loop : tie.InvT-loop
+Inv-loop xs n fits₀ i₀ fits i = (i ≤ n - 1) × (fits ≡ every i (λ k. ltb (getD xs k 0) (getD xs (k + 1) 0)))
+
+abbrev μ-loop : tie.MeasureT-loop
+μ-loop xs n fits₀ i₀ fits i = n - i
+
+loop-holds : tie.Need-loop-holds Inv-loop μ-loop
+loop-holds c = (search needs, sym (every-none _))
+
+add-loop : tie.Need-add-loop Inv-loop μ-loop
+add-loop c = search needs
+
+mul-fits : tie.Need-mul-fits Inv-loop μ-loop
+mul-fits c = search needs
+
+shared-slice-read-fits : tie.Need-shared-slice-read-fits Inv-loop μ-loop
+shared-slice-read-fits c = search needs
+
+add-fits : tie.Need-add-fits Inv-loop μ-loop
+add-fits c = search needs
+
+mul-fits-2 : tie.Need-mul-fits-2 Inv-loop μ-loop
+mul-fits-2 c = search needs
+
+shared-slice-read-fits-2 : tie.Need-shared-slice-read-fits-2 Inv-loop μ-loop
+shared-slice-read-fits-2 c = search needs
+
+add-i : tie.Need-add-i Inv-loop μ-loop
+add-i c = search needs
+
+loop-less : tie.Need-loop-less Inv-loop μ-loop
+loop-less c = search needs
+
+loop-again : tie.Need-loop-again Inv-loop μ-loop
+loop-again c = (omega arith, every-acc _ _ _ (c .before .before .before .loop .inv .1))
+
+returns : tie.Need-returns Inv-loop μ-loop
+returns c = let e : c .before .loop .i ≡ c .before .before .args .n - 1 = omega arith in cc
+
+pub is-rising-spec : {M : Type 1} → statement M
+is-rising-spec =
+    tie.close
+    (tie.spec
+    Inv-loop
+    μ-loop
+    loop-holds
+    add-loop
+    mul-fits
+    shared-slice-read-fits
+    add-fits
+    mul-fits-2
+    shared-slice-read-fits-2
+    add-i
+    loop-less
+    loop-again
+    returns)

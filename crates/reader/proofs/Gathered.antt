@@ -1,0 +1,119 @@
+-- Lines read one after the other are the definition's lines: each reader's answer put into the place of its line.
+use Prim.Native.Nat.{ℕ, _≤_}
+use mathlib.Core.Path.{_≡_, refl, ap, _∙_}
+use mathlib.Core.Bool.{Bool, false}
+use mathlib.Core.List.{List, []}
+use Rattle.plan.specs.declared.Form.{Form}
+use Rattle.plan.specs.declared.Form.the-variants.{End}
+use lib.ListN.{replicate}
+use Rattle.plan.specs.declared.Template.{Template}
+use Rattle.plan.specs.declared.Plan.{Plan}
+use Rattle.plan.specs.declared.Kind.{Kind}
+use Rattle.plan.specs.declared.Kind.the-variants.{Secrecy}
+use Rattle.plan.specs.declared.Assertion.{Assertion}
+use Rattle.plan.specs.declared.Policy.{Policy}
+use Rattle.plan.specs.Plan.{blank, blankAssertion}
+use Rattle.scan.specs.Bytes.{bytes}
+use Rattle.field.specs.Fields.{number, templateNumber, mask, name, form, risk, kind, declass}
+use Rattle.text.specs.Reading.{Cursor, on, Step, Reader, _>>=_, give, line, Entry, entry, plan, assertion, policy}
+use Rattle.text.specs.Cursors.{cursorOf, stepOf, keyed}
+use Rattle.text.specs.declared.Position.{Position}
+use Rattle.text.specs.declared.Position.the-variants.{On}
+use Rattle.text.proofs.Lines.{keyed-line}
+use Rattle.reader.specs.Rows.{Masks, masks, filled, listed}
+use Rattle.reader.proofs.Entries.{filled-all}
+use Rattle.reader.proofs.Assertions.{listed-all}
+
+module _ (M : ℕ) (text : List ℕ) (p₀ p₁ p₂ p₃ p₄ : Position) (l p g c : ℕ) where
+  pub masks-gathered : stepOf text l p₁ ≡ keyed 0 (bytes "lab=") (mask 8 M) (cursorOf text p₀)
+      → stepOf text p p₂ ≡ keyed 0 (bytes "pos=") (mask 8 M) (cursorOf text p₁)
+      → stepOf text g p₃ ≡ keyed 0 (bytes "neg=") (mask 8 M) (cursorOf text p₂)
+      → stepOf text c p₄ ≡ keyed 0 (bytes "creates=") (mask 8 M) (cursorOf text p₃)
+      → stepOf {A = Masks} text (record { lab = l; pos = p; neg = g; creates = c }) p₄ ≡ masks M (cursorOf text p₀)
+  unfolding masks
+  masks-gathered a₁ a₂ a₃ a₄ =
+      rw (
+        ← (a₁ ∙ keyed-line 0 "lab=" (mask 8 M) (cursorOf text p₀)),
+        ← (a₂ ∙ keyed-line 0 "pos=" (mask 8 M) (cursorOf text p₁)),
+        ← (a₃ ∙ keyed-line 0 "neg=" (mask 8 M) (cursorOf text p₂)),
+        ← (a₄ ∙ keyed-line 0 "creates=" (mask 8 M) (cursorOf text p₃)),
+      )
+
+-- An entry, its four mask lines taken as one.
+unfoldable entry-lines : ℕ → ℕ → List (List ℕ) → Reader Entry
+entry-lines N M stood = do
+  n ← line [] "name=" (name stood)
+  f ← line End "form=" (form N)
+  m ← masks M
+  r ← line false "risk=" risk
+  give (record { name = n; template = record { form = f; lab = m .lab; pos = m .pos; neg = m .neg; creates = m .creates; risk = r } })
+
+entry-same : (N M : ℕ) (stood : List (List ℕ)) (c : Cursor) → entry-lines N M stood c ≡ entry N M stood c
+unfolding entry entry-lines masks
+entry-same N M stood c = refl
+
+module _ (N M : ℕ) (stood : List (List ℕ)) (text : List ℕ) (p₀ p₁ p₂ p₃ p₄ : Position)
+    (n : List ℕ) (f : Form) (l p g c : ℕ) (r : Bool) where
+  lines-gathered : stepOf text n p₁ ≡ keyed [] (bytes "name=") (name stood) (cursorOf text p₀)
+      → stepOf text f p₂ ≡ keyed End (bytes "form=") (form N) (cursorOf text p₁)
+      → stepOf {A = Masks} text (record { lab = l; pos = p; neg = g; creates = c }) p₃ ≡ masks M (cursorOf text p₂)
+      → stepOf text r p₄ ≡ keyed false (bytes "risk=") risk (cursorOf text p₃)
+      → stepOf {A = Entry} text (record { name = n; template = record { form = f; lab = l; pos = p; neg = g; creates = c; risk = r } }) p₄
+      ≡ entry-lines N M stood (cursorOf text p₀)
+  unfolding entry-lines
+  lines-gathered a₁ a₂ a₃ a₄ =
+      rw (
+        ← (a₁ ∙ keyed-line [] "name=" (name stood) (cursorOf text p₀)),
+        ← (a₂ ∙ keyed-line End "form=" (form N) (cursorOf text p₁)),
+        ← a₃,
+        ← (a₄ ∙ keyed-line false "risk=" risk (cursorOf text p₃)),
+      )
+
+  pub entry-gathered : stepOf text n p₁ ≡ keyed [] (bytes "name=") (name stood) (cursorOf text p₀)
+      → stepOf text f p₂ ≡ keyed End (bytes "form=") (form N) (cursorOf text p₁)
+      → stepOf {A = Masks} text (record { lab = l; pos = p; neg = g; creates = c }) p₃ ≡ masks M (cursorOf text p₂)
+      → stepOf text r p₄ ≡ keyed false (bytes "risk=") risk (cursorOf text p₃)
+      → stepOf {A = Entry} text (record { name = n; template = record { form = f; lab = l; pos = p; neg = g; creates = c; risk = r } }) p₄
+      ≡ entry N M stood (cursorOf text p₀)
+  entry-gathered a₁ a₂ a₃ a₄ = lines-gathered a₁ a₂ a₃ a₄ ∙ entry-same N M stood (cursorOf text p₀)
+
+module _ (text : List ℕ) (p₁ p₂ p₃ : Position) (N M : ℕ) (ts : List Template) where
+  pub plan-gathered : stepOf text N p₁ ≡ keyed 0 (bytes "templates=") (number 3 1 65) (cursorOf text (On 0 1))
+      → stepOf text M p₂ ≡ keyed 0 (bytes "identifiers=") (number 3 0 33) (cursorOf text p₁)
+      → stepOf text ts p₃ ≡ filled N M [] 0 (replicate 64 blank) N (cursorOf text p₂)
+      → N ≤ 64
+      → stepOf {A = Plan} text (record { count = N; identifiers = M; templates = ts }) p₃ ≡ plan (on text 1)
+  unfolding plan cursorOf
+  plan-gathered a₁ a₂ a₃ h =
+      rw
+      (← (a₁ ∙ keyed-line 0 "templates=" (number 3 1 65) (on text 1)), ← (a₂ ∙ keyed-line 0 "identifiers=" (number 3 0 33) (cursorOf text p₁)))
+      (ap (λ (s : Step (List Template)). record { value = record { count = N; identifiers = M; templates = s .value }; next = s .next })
+      (a₃ ∙ filled-all N M (cursorOf text p₂) h))
+
+module _ (N : ℕ) (text : List ℕ) (p₀ p₁ p₂ p₃ p₄ p₅ : Position) (k : Kind) (s z a d : ℕ) where
+  pub assertion-gathered : stepOf text k p₁ ≡ keyed Secrecy (bytes "kind=") kind (cursorOf text p₀)
+      → stepOf text s p₂ ≡ keyed 0 (bytes "source=") (number 3 0 N) (cursorOf text p₁)
+      → stepOf text z p₃ ≡ keyed 0 (bytes "sink=") (number 3 0 N) (cursorOf text p₂)
+      → stepOf text a p₄ ≡ keyed 0 (bytes "anc=") (number 3 0 N) (cursorOf text p₃)
+      → stepOf text d p₅ ≡ keyed 0 (bytes "declass=") (declass N k s z) (cursorOf text p₄)
+      → stepOf {A = Assertion} text (record { kind = k; source = s; sink = z; anc = a; declass = d }) p₅ ≡ assertion N (cursorOf text p₀)
+  unfolding assertion templateNumber
+  assertion-gathered a₁ a₂ a₃ a₄ a₅ =
+      rw (
+        ← (a₁ ∙ keyed-line Secrecy "kind=" kind (cursorOf text p₀)),
+        ← (a₂ ∙ keyed-line 0 "source=" (number 3 0 N) (cursorOf text p₁)),
+        ← (a₃ ∙ keyed-line 0 "sink=" (number 3 0 N) (cursorOf text p₂)),
+        ← (a₄ ∙ keyed-line 0 "anc=" (number 3 0 N) (cursorOf text p₃)),
+        ← (a₅ ∙ keyed-line 0 "declass=" (declass N k s z) (cursorOf text p₄)),
+      )
+
+module _ (N : ℕ) (text : List ℕ) (p₁ p₂ : Position) (K : ℕ) (row : List Assertion) where
+  pub policy-gathered : stepOf text K p₁ ≡ keyed 0 (bytes "assertions=") (number 3 0 33) (cursorOf text (On 0 1))
+      → stepOf text row p₂ ≡ listed N 0 (replicate 32 blankAssertion) K (cursorOf text p₁)
+      → K ≤ 32
+      → stepOf {A = Policy} text (record { count = K; assertions = row }) p₂ ≡ policy N (on text 1)
+  unfolding policy cursorOf
+  policy-gathered a₁ a₂ h =
+      rw (← (a₁ ∙ keyed-line 0 "assertions=" (number 3 0 33) (on text 1)))
+      (ap (λ (s : Step (List Assertion)). record { value = record { count = K; assertions = s .value }; next = s .next })
+      (a₂ ∙ listed-all N K (cursorOf text p₁) h))

@@ -1,0 +1,33 @@
+-- A row that is filled from its start, with blank places after what it holds.
+use Prim.Native.Nat.{ℕ, zero, suc, _+_, _≤_, _<_}
+use mathlib.Core.Path.{_≡_, refl, sym, ap, _∙_}
+use mathlib.Core.List.{List, [], _∷_, _++_, append-assoc}
+use native.Mathlib.Nat.{suc-add}
+use native.Mathlib.Omega.{arith}
+use lib.ListN.{length, getD, set, replicate, length-append}
+use lib.Seq.{set-append-seam}
+
+module _ {A : Type 0} where
+  pub longer : (front : List A) (a : A) → length front + 1 ≡ length (front ++ (a ∷ []))
+  longer front a = sym (length-append front (a ∷ []))
+
+  -- One element more takes the first blank place.
+  pub seam : (d : A) (front : List A) (more rest : ℕ) (a : A)
+      → set (front ++ replicate (suc more + rest) d) (length front) a ≡ (front ++ (a ∷ [])) ++ replicate (more + rest) d
+  seam d front more rest a =
+      ap (λ (k : ℕ). set (front ++ replicate k d) (length front) a) (suc-add more rest)
+      ∙ set-append-seam front d (replicate (more + rest) d) a
+      ∙ sym (append-assoc front (a ∷ []) (replicate (more + rest) d))
+
+  -- What stands at a place of the row.
+  pub row-in : (l r : List A) (X : ℕ) (d : A) → X < length l → getD (l ++ r) X d ≡ getD l X d
+  row-in [] r X d h = absurd (omega arith)
+  row-in (x ∷ l) r zero d h = refl
+  row-in (x ∷ l) r (suc X) d h = row-in l r X d (omega arith)
+
+  pub row-past : (l : List A) (k X : ℕ) (d : A) → length l ≤ X → getD (l ++ replicate k d) X d ≡ d
+  row-past [] zero X d h = refl
+  row-past [] (suc k) zero d h = refl
+  row-past [] (suc k) (suc X) d h = row-past [] k X d (omega arith)
+  row-past (x ∷ l) k zero d h = absurd (omega arith)
+  row-past (x ∷ l) k (suc X) d h = row-past l k X d (omega arith)

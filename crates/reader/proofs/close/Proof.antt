@@ -1,0 +1,23 @@
+-- What is left at the last position decides.
+use Rattle.reader.proofs.Closing.{closed-stopped, closed-extra, closed-complete}
+use borrow.Author.Needs.{needs}
+use Rattle.reader.proofs.close.Statement.{statement}
+use Rattle.reader.proofs.close.Tie as tie
+
+enum-known-end : tie.Need-enum-known-end
+enum-known-end c = search needs
+
+enum-known-end-2 : tie.Need-enum-known-end-2
+enum-known-end-2 c = search needs
+
+returns : tie.Need-returns
+returns c = search closed-extra
+
+returns-2 : tie.Need-returns-2
+returns-2 c = search closed-stopped
+
+returns-3 : tie.Need-returns-3
+returns-3 c = search closed-complete
+
+pub close-spec : {M : Type 1} → statement M
+close-spec = tie.close (tie.spec enum-known-end enum-known-end-2 returns returns-2 returns-3)

@@ -1,0 +1,25 @@
+-- One line after the other.
+use Rattle.reader.proofs.Gathered.{entry-gathered}
+use borrow.Author.Needs.{needs}
+use Rattle.reader.proofs.read_entry.Statement.{statement}
+use Rattle.reader.proofs.read_entry.Tie as tie
+
+name-line-requires : tie.Need-name-line-requires
+name-line-requires c κs = search needs
+
+form-line-requires : tie.Need-form-line-requires
+form-line-requires c κs = search needs
+
+read-masks-requires : tie.Need-read-masks-requires
+read-masks-requires c κs = search needs
+
+risk-line-requires : tie.Need-risk-line-requires
+risk-line-requires c κs = search needs
+
+returns : tie.Need-returns
+returns c = (search entry-gathered, (search needs, search needs))
+
+pub read-entry-spec : {M : Type 1} → statement M
+read-entry-spec =
+    tie.close
+    (tie.spec name-line-requires form-line-requires read-masks-requires risk-line-requires returns)

@@ -1,0 +1,390 @@
+// Reading the plan and the policy, line by line, with no copy of the text (document 01, "The two texts" and "Reading").
+use plan::Assertion;
+use plan::Form;
+use plan::Kind;
+use plan::Plan;
+use plan::Policy;
+use plan::Template;
+use text::PlanRead;
+use text::PolicyRead;
+use text::Position;
+use text::Reading;
+use text::Refusal;
+ghost use mathlib.Core.Path.{_≡_};
+ghost use Prim.Native.Nat.{_≤_};
+ghost use mathlib.Core.List.{[]};
+ghost use lib.ListN.{length, replicate};
+ghost use Rattle.plan.specs.Plan.{blank, blankAssertion};
+ghost use Rattle.text.specs.Reading.{on, longest, entry, plan as planText, assertion, policy as policyText, closed, readPlan, readPolicy, noPlan, noPolicy};
+ghost use Rattle.text.specs.Cursors.{cursorOf, Standing, stepOf, namesOf, Remembered};
+ghost use Rattle.reader.specs.Rows.{masks, masksOf, entryOf, filled, listed};
+
+// Each text has at most 16,384 bytes (document 01, The two texts).
+const LONGEST: usize = 16384;
+
+// The number of the refusal of a longer one.
+const TOO_LONG: u8 = 1;
+
+pub struct MasksRead {
+    pub lab: u32,
+    pub pos: u32,
+    pub neg: u32,
+    pub creates: u32,
+    pub next: Position,
+}
+
+// The four mask lines of a template of a plan with m identifiers.
+fn read_masks(text: &[u8], from: Position, m: u8) -> MasksRead
+    requires { ⌜ Standing (now text) from × (m ≤ 32) ⌝ }
+    ensures { λ r. ⌜ stepOf (now (text .entry)) (masksOf r) (r .next) ≡ masks m (cursorOf (now (text .entry)) from) ⌝ }
+    ensures room { λ r. ⌜ Standing (now (text .entry)) (r .next) ⌝ }
+{
+    let lab = text::mask_line(text, from, b"lab=", m);
+    let after_lab = lab.next;
+    let pos = text::mask_line(text, after_lab, b"pos=", m);
+    let after_pos = pos.next;
+    let neg = text::mask_line(text, after_pos, b"neg=", m);
+    let after_neg = neg.next;
+    let creates = text::mask_line(text, after_neg, b"creates=", m);
+    let next = creates.next;
+    MasksRead {
+        lab: lab.value,
+        pos: pos.value,
+        neg: neg.value,
+        creates: creates.value,
+        next,
+    }
+}
+
+// Where the name of a template stands, the template, and the position after its lines.
+pub struct EntryRead {
+    pub start: usize,
+    pub end: usize,
+    pub template: Template,
+    pub next: Position,
+}
+
+// The seven lines of a template of a plan with n templates and m identifiers; the names that stood are at the first
+// places of the two rows.
+fn read_entry(
+    text: &[u8],
+    from: Position,
+    n: u8,
+    m: u8,
+    starts: &[usize],
+    ends: &[usize],
+    count: usize,
+) -> EntryRead
+    requires { ⌜ Standing (now text) from × Remembered (now text) (now starts) (now ends) count × (m ≤ 32) ⌝ }
+    ensures { λ r. ⌜ stepOf (now (text .entry)) (entryOf (now (text .entry)) r) (r .next) ≡ entry n m (namesOf (now (text .entry)) (now (starts .entry)) (now (ends .entry)) count) (cursorOf (now (text .entry)) from) ⌝ }
+    ensures room { λ r. ⌜ Standing (now (text .entry)) (r .next) ⌝ }
+    ensures place { λ r. ⌜ (r .start ≤ r .end) × (r .end ≤ length (now (text .entry))) ⌝ }
+{
+    let name = text::name_line(text, from, starts, ends, count);
+    let after_name = name.next;
+    let form = text::form_line(text, after_name, n);
+    let after_form = form.next;
+    let masks = read_masks(text, after_form, m);
+    let after_masks = masks.next;
+    let risk = text::risk_line(text, after_masks);
+    let next = risk.next;
+    let f = form.value;
+    let template = Template {
+        form: f,
+        lab: masks.lab,
+        pos: masks.pos,
+        neg: masks.neg,
+        creates: masks.creates,
+        risk: risk.value,
+    };
+    EntryRead {
+        start: name.start,
+        end: name.end,
+        template,
+        next,
+    }
+}
+
+pub struct EntriesRead {
+    pub templates: [Template; 64],
+    pub next: Position,
+}
+
+// The lines of all n templates. Where a name stands is remembered, so that a later one is compared with it.
+fn read_entries(text: &[u8], from: Position, n: u8, m: u8) -> EntriesRead
+    requires { ⌜ Standing (now text) from × (n ≤ 64) × (m ≤ 32) ⌝ }
+    ensures { λ r. ⌜ stepOf (now (text .entry)) (r .templates) (r .next) ≡ filled n m [] 0 (replicate 64 blank) n (cursorOf (now (text .entry)) from) ⌝ }
+    ensures room { λ r. ⌜ Standing (now (text .entry)) (r .next) ⌝ }
+{
+    let mut templates = [Template {
+        form: Form::End,
+        lab: 0,
+        pos: 0,
+        neg: 0,
+        creates: 0,
+        risk: false,
+    }; 64];
+    let mut starts: [usize; 64] = [0; 64];
+    let mut ends: [usize; 64] = [0; 64];
+    let mut at = from;
+    let mut i: usize = 0;
+    while i < n as usize {
+        let entry = read_entry(text, at, n, m, &starts, &ends, i);
+        let template = entry.template;
+        templates[i] = template;
+        starts[i] = entry.start;
+        ends[i] = entry.end;
+        at = entry.next;
+        i += 1;
+    }
+    EntriesRead {
+        templates,
+        next: at,
+    }
+}
+
+pub struct PlanLines {
+    pub plan: Plan,
+    pub next: Position,
+}
+
+// The lines of a plan, from the text's start: its counts, then its templates.
+fn read_plan_lines(text: &[u8]) -> PlanLines
+    requires { ⌜ length (now text) ≤ longest ⌝ }
+    ensures { λ r. ⌜ stepOf (now (text .entry)) (r .plan) (r .next) ≡ planText (on (now (text .entry)) 1) ⌝ }
+{
+    let templates = text::number_line(text, Position::On(0, 1), b"templates=", field::RANGE, 1, 65);
+    let after_templates = templates.next;
+    let identifiers = text::number_line(
+        text,
+        after_templates,
+        b"identifiers=",
+        field::RANGE,
+        0,
+        33,
+    );
+    let after_identifiers = identifiers.next;
+    let entries = read_entries(text, after_identifiers, templates.value, identifiers.value);
+    let rows = entries.templates;
+    let next = entries.next;
+    let plan = Plan {
+        count: templates.value as usize,
+        identifiers: identifiers.value as u32,
+        templates: rows,
+    };
+    PlanLines { plan, next }
+}
+
+// Nothing may follow the last line.
+fn close(text: &[u8], end: Position) -> Reading
+    ensures { λ r. ⌜ r ≡ closed (cursorOf (now (text .entry)) end) ⌝ }
+{
+    match end {
+        Position::Stopped(number, line) => Reading::Refused(Refusal { number, line }),
+        Position::On(at, line) => {
+            if at < text.len() {
+                return Reading::Refused(Refusal {
+                    number: field::LAYOUT,
+                    line,
+                });
+            }
+            Reading::Complete
+        }
+    }
+}
+
+fn no_plan() -> Plan
+    ensures { λ r. ⌜ r ≡ noPlan ⌝ }
+{
+    let templates = [Template {
+        form: Form::End,
+        lab: 0,
+        pos: 0,
+        neg: 0,
+        creates: 0,
+        risk: false,
+    }; 64];
+    Plan {
+        count: 0,
+        identifiers: 0,
+        templates,
+    }
+}
+
+// The plan text: the plan, or the number and line of the refusal with the blank plan.
+pub fn read_plan(text: &[u8]) -> PlanRead
+    ensures { λ r. ⌜ r ≡ readPlan (now (text .entry)) ⌝ }
+{
+    if LONGEST < text.len() {
+        let plan = no_plan();
+        return PlanRead {
+            answer: Reading::Refused(Refusal {
+                number: TOO_LONG,
+                line: 0,
+            }),
+            plan,
+        };
+    }
+    let read = read_plan_lines(text);
+    let next = read.next;
+    match close(text, next) {
+        Reading::Refused(refusal) => {
+            let plan = no_plan();
+            PlanRead {
+                answer: Reading::Refused(refusal),
+                plan,
+            }
+        }
+        Reading::Complete => {
+            let plan = read.plan;
+            PlanRead {
+                answer: Reading::Complete,
+                plan,
+            }
+        }
+    }
+}
+
+pub struct AssertionRead {
+    pub assertion: Assertion,
+    pub next: Position,
+}
+
+// The five lines of an assertion over n templates.
+fn read_assertion(text: &[u8], from: Position, n: u8) -> AssertionRead
+    requires { ⌜ Standing (now text) from ⌝ }
+    ensures { λ r. ⌜ stepOf (now (text .entry)) (r .assertion) (r .next) ≡ assertion n (cursorOf (now (text .entry)) from) ⌝ }
+    ensures room { λ r. ⌜ Standing (now (text .entry)) (r .next) ⌝ }
+{
+    let kind = text::kind_line(text, from);
+    let after_kind = kind.next;
+    let source = text::number_line(text, after_kind, b"source=", field::RANGE, 0, n);
+    let after_source = source.next;
+    let sink = text::number_line(text, after_source, b"sink=", field::RANGE, 0, n);
+    let after_sink = sink.next;
+    let anc = text::number_line(text, after_sink, b"anc=", field::RANGE, 0, n);
+    let after_anc = anc.next;
+    let k = kind.value;
+    let declass = text::declass_line(text, after_anc, n, k, source.value, sink.value);
+    let next = declass.next;
+    let assertion = Assertion {
+        kind: k,
+        source: source.value,
+        sink: sink.value,
+        anc: anc.value,
+        declass: declass.value,
+    };
+    AssertionRead { assertion, next }
+}
+
+pub struct AssertionsRead {
+    pub assertions: [Assertion; 32],
+    pub next: Position,
+}
+
+// The lines of all k assertions over n templates.
+fn read_assertions(text: &[u8], from: Position, n: u8, k: u8) -> AssertionsRead
+    requires { ⌜ Standing (now text) from × (k ≤ 32) ⌝ }
+    ensures { λ r. ⌜ stepOf (now (text .entry)) (r .assertions) (r .next) ≡ listed n 0 (replicate 32 blankAssertion) k (cursorOf (now (text .entry)) from) ⌝ }
+{
+    let mut assertions = [Assertion {
+        kind: Kind::Secrecy,
+        source: 0,
+        sink: 0,
+        anc: 0,
+        declass: 0,
+    }; 32];
+    let mut at = from;
+    let mut i: usize = 0;
+    while i < k as usize {
+        let read = read_assertion(text, at, n);
+        let assertion = read.assertion;
+        assertions[i] = assertion;
+        at = read.next;
+        i += 1;
+    }
+    AssertionsRead {
+        assertions,
+        next: at,
+    }
+}
+
+pub struct PolicyLines {
+    pub policy: Policy,
+    pub next: Position,
+}
+
+// The lines of a policy over n templates, from the text's start: its count, then its assertions.
+fn read_policy_lines(text: &[u8], n: u8) -> PolicyLines
+    requires { ⌜ length (now text) ≤ longest ⌝ }
+    ensures { λ r. ⌜ stepOf (now (text .entry)) (r .policy) (r .next) ≡ policyText n (on (now (text .entry)) 1) ⌝ }
+{
+    let count = text::number_line(
+        text,
+        Position::On(0, 1),
+        b"assertions=",
+        field::RANGE,
+        0,
+        33,
+    );
+    let after_count = count.next;
+    let read = read_assertions(text, after_count, n, count.value);
+    let rows = read.assertions;
+    let next = read.next;
+    let policy = Policy {
+        count: count.value as usize,
+        assertions: rows,
+    };
+    PolicyLines { policy, next }
+}
+
+fn no_policy() -> Policy
+    ensures { λ r. ⌜ r ≡ noPolicy ⌝ }
+{
+    let assertions = [Assertion {
+        kind: Kind::Secrecy,
+        source: 0,
+        sink: 0,
+        anc: 0,
+        declass: 0,
+    }; 32];
+    Policy {
+        count: 0,
+        assertions,
+    }
+}
+
+// The policy text over the n templates of the plan: the policy, or the number and line of the refusal with the blank
+// policy.
+pub fn read_policy(n: u8, text: &[u8]) -> PolicyRead
+    ensures { λ r. ⌜ r ≡ readPolicy n (now (text .entry)) ⌝ }
+{
+    if LONGEST < text.len() {
+        let policy = no_policy();
+        return PolicyRead {
+            answer: Reading::Refused(Refusal {
+                number: TOO_LONG,
+                line: 0,
+            }),
+            policy,
+        };
+    }
+    let read = read_policy_lines(text, n);
+    let next = read.next;
+    match close(text, next) {
+        Reading::Refused(refusal) => {
+            let policy = no_policy();
+            PolicyRead {
+                answer: Reading::Refused(refusal),
+                policy,
+            }
+        }
+        Reading::Complete => {
+            let policy = read.policy;
+            PolicyRead {
+                answer: Reading::Complete,
+                policy,
+            }
+        }
+    }
+}

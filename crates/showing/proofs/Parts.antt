@@ -1,0 +1,110 @@
+-- The part that a verdict shows: where it lies, and its bytes.
+use Prim.Native.Nat.{ℕ, _+_, _-_, _*_, _≤_, _<_}
+use mathlib.Core.Path.{_≡_, sym, ap, ap₂, _∙_}
+use mathlib.Core.Bool.{Bool, cond}
+use mathlib.Core.List.{List, []}
+use native.Mathlib.Omega.{arith}
+use lib.ListN.{length, take, drop, length-drop, drop-of-length-le}
+use lib.Seq.{take-all, take-nil}
+use borrow.Author.Tests.{le-leb, lt-leb}
+use Rattle.rules.specs.declared.Text.{Text}
+use Rattle.rules.specs.declared.Text.the-variants.{Plan as PlanText, Policy as PolicyText}
+use Rattle.rules.specs.declared.Fault.{Fault}
+use Rattle.rules.specs.declared.Breach.{Breach}
+use Rattle.rules.specs.declared.Verdict.{Verdict}
+use Rattle.rules.specs.declared.Verdict.the-variants.{Accepted, Broken, Unread}
+use Rattle.rules.specs.declared.Part.{Part}
+use Rattle.rules.specs.Show.{from, textOf, lineStart, lineEnd, faultyLine, nameOf, kindLine, located, locate, shown}
+use Rattle.rules.specs.Judge.{judge}
+use Rattle.showing.specs.Bytes.{within}
+
+-- ---- where it lies
+
+pub name-lies : (X start end : ℕ) (plan : List ℕ) → start ≡ lineStart (2 + 7 * X) 0 plan → end ≡ lineEnd start plan
+    → from PlanText (start + 5) end ≡ nameOf X plan
+unfolding nameOf
+name-lies X start end plan e h = ap₂ (λ (s t : ℕ). from PlanText (s + 5) t) e (h ∙ ap (λ (s : ℕ). lineEnd s plan) e)
+
+pub kind-lies : (i start end : ℕ) (policy : List ℕ) → start ≡ lineStart (1 + 5 * i) 0 policy → end ≡ lineEnd start policy
+    → from PolicyText start end ≡ kindLine i policy
+unfolding kindLine
+kind-lies i start end policy e h = ap₂ (from PolicyText) e (h ∙ ap (λ (s : ℕ). lineEnd s policy) e)
+
+module _ (plan policy : List ℕ) where
+  fault-lies : (f : Fault) (start end : ℕ) → start ≡ faultyLine (f .line) (textOf (f .text) plan policy) → end ≡ lineEnd start (textOf (f .text) plan policy)
+      → from (f .text) start end ≡ located (Unread f) plan policy
+  unfolding located
+  fault-lies f start end e h = ap₂ (from (f .text)) e (h ∙ ap (λ (s : ℕ). lineEnd s (textOf (f .text) plan policy)) e)
+
+  pub fault-plan : (f : Fault) (start end : ℕ) → f .text ≡ PlanText → start ≡ faultyLine (f .line) plan → end ≡ lineEnd start plan
+      → from (f .text) start end ≡ located (Unread f) plan policy
+  fault-plan f start end t e h =
+      let q : textOf (f .text) plan policy ≡ plan = ap (λ (x : Text). textOf x plan policy) t in
+      fault-lies f start end (e ∙ ap (faultyLine (f .line)) (sym q)) (h ∙ ap (lineEnd start) (sym q))
+
+  pub fault-policy : (f : Fault) (start end : ℕ) → f .text ≡ PolicyText → start ≡ faultyLine (f .line) policy → end ≡ lineEnd start policy
+      → from (f .text) start end ≡ located (Unread f) plan policy
+  fault-policy f start end t e h =
+      let q : textOf (f .text) plan policy ≡ policy = ap (λ (x : Text). textOf x plan policy) t in
+      fault-lies f start end (e ∙ ap (faultyLine (f .line)) (sym q)) (h ∙ ap (lineEnd start) (sym q))
+
+  module _ (v : Verdict) where
+    pub accepted-lies : v ≡ Accepted → from PlanText 0 0 ≡ located v plan policy
+    unfolding located
+    accepted-lies e = sym (ap (λ (x : Verdict). located x plan policy) e)
+
+    pub edge-lies : (b : Breach) (r : Part) → v ≡ Broken b → b .rule ≤ 16 → r ≡ nameOf (b .first) plan → r ≡ located v plan policy
+    unfolding located
+    edge-lies b r e h k =
+        k ∙ sym (ap (λ (x : Verdict). located x plan policy) e ∙ ap (λ (c : Bool). cond c (nameOf (b .first) plan) (kindLine (b .first) policy)) (le-leb (b .rule) 16 h))
+
+    pub assertion-lies : (b : Breach) (r : Part) → v ≡ Broken b → 16 < b .rule → r ≡ kindLine (b .first) policy → r ≡ located v plan policy
+    unfolding located
+    assertion-lies b r e h k =
+        k ∙ sym (ap (λ (x : Verdict). located x plan policy) e ∙ ap (λ (c : Bool). cond c (nameOf (b .first) plan) (kindLine (b .first) policy)) (lt-leb (b .rule) 16 h))
+
+    pub unread-lies : (f : Fault) (r : Part) → v ≡ Unread f → r ≡ located (Unread f) plan policy → r ≡ located v plan policy
+    unread-lies f r e k = k ∙ sym (ap (λ (x : Verdict). located x plan policy) e)
+
+-- ---- its bytes
+
+module _ (text : List ℕ) (start end : ℕ) where
+  nothing : (k : ℕ) → k ≡ 0 → (l : List ℕ) → [] ≡ take k l
+  nothing k e l = sym (ap (λ (j : ℕ). take j l) e)
+
+  -- The empty part, as the code lends it.
+  pub part-empty : end ≤ start → take (0 - 0) (drop 0 text) ≡ take (end - start) (drop start text)
+  part-empty h = sym (nothing (0 - 0) (omega arith) (drop 0 text)) ∙ nothing (end - start) (omega arith) (drop start text)
+
+  pub part-past : length text ≤ start → take (0 - 0) (drop 0 text) ≡ take (end - start) (drop start text)
+  part-past h =
+      sym (nothing (0 - 0) (omega arith) (drop 0 text))
+      ∙ sym (ap (take (end - start)) (drop-of-length-le text h) ∙ take-nil (end - start))
+
+  pub part-rest : length text ≤ end → take (length text - start) (drop start text) ≡ take (end - start) (drop start text)
+  part-rest h =
+      take-all (length text - start) (drop start text) (simp length-drop (omega arith))
+      ∙ sym (take-all (end - start) (drop start text) (simp length-drop (omega arith)))
+
+module _ (plan policy : List ℕ) (p q : Part) (e : p ≡ q) (r : List ℕ) where
+  pub bytes-plan : p .text ≡ PlanText → r ≡ take (p .end - p .start) (drop (p .start) plan) → r ≡ within q plan policy
+  unfolding within
+  bytes-plan t h =
+      h ∙ ap (λ (x : List ℕ). take (p .end - p .start) (drop (p .start) x)) (sym (ap (λ (x : Text). textOf x plan policy) t))
+      ∙ ap (λ (x : Part). take (x .end - x .start) (drop (x .start) (textOf (x .text) plan policy))) e
+
+  pub bytes-policy : p .text ≡ PolicyText → r ≡ take (p .end - p .start) (drop (p .start) policy) → r ≡ within q plan policy
+  unfolding within
+  bytes-policy t h =
+      h ∙ ap (λ (x : List ℕ). take (p .end - p .start) (drop (p .start) x)) (sym (ap (λ (x : Text). textOf x plan policy) t))
+      ∙ ap (λ (x : Part). take (x .end - x .start) (drop (x .start) (textOf (x .text) plan policy))) e
+
+-- ---- the judge's own verdict
+
+pub judged-lies : (plan policy : List ℕ) (v : Verdict) (r : Part) → v ≡ judge plan policy → r ≡ located v plan policy → r ≡ locate plan policy
+unfolding locate
+judged-lies plan policy v r e h = h ∙ ap (λ (x : Verdict). located x plan policy) e
+
+pub judged-bytes : (plan policy : List ℕ) (v : Verdict) (r : List ℕ) → v ≡ judge plan policy → r ≡ within (located v plan policy) plan policy → r ≡ shown plan policy
+unfolding shown locate within
+judged-bytes plan policy v r e h = h ∙ ap (λ (x : Verdict). within (located x plan policy) plan policy) e

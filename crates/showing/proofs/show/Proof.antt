@@ -1,0 +1,17 @@
+-- Of the judge's own verdict.
+use Rattle.showing.proofs.Parts.{judged-bytes}
+use borrow.Author.Needs.{needs}
+use Rattle.showing.proofs.show.Statement.{statement}
+use Rattle.showing.proofs.show.Tie as tie
+
+judge-requires : tie.Need-judge-requires
+judge-requires c κs = search needs
+
+show-verdict-requires : tie.Need-show-verdict-requires
+show-verdict-requires c κs = search needs
+
+returns : tie.Need-returns
+returns c = search judged-bytes
+
+pub show-spec : {M : Type 1} → statement M
+show-spec = tie.close (tie.spec judge-requires show-verdict-requires returns)

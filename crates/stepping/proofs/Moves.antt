@@ -1,0 +1,197 @@
+-- What the changes of the arrays mean for the list of processes: one goes, and its children come.
+use Prim.Native.Nat.{ℕ, _+_, _-_, _*_, _≤_, _<_}
+use mathlib.Core.Path.{_≡_, refl, sym, ap, ap₂, _∙_, subst}
+use mathlib.Core.Logic.{⊎-elim}
+use mathlib.Core.List.{List, [], _∷_, _++_, append-assoc, append-nil}
+use native.Mathlib.Nat.{suc-mul}
+use native.Mathlib.Numerals.{add-one}
+use native.Mathlib.Omega.{arith}
+use lib.ListN.{length, getD, set}
+use lib.Seq.{getD-set-same, getD-set-other}
+use borrow.Author.Tests.{lt-ltb, le-ltb}
+use Rattle.lists.specs.Numbers.{tabulate}
+use Rattle.lists.proofs.Tests.{lt-or-le}
+use Rattle.lists.proofs.Tabulate.{getD-tabulate, tabulate-ext, tabulate-snoc}
+use Rattle.plan.specs.declared.Template.{Template}
+use Rattle.plan.specs.declared.Successors.{Successors}
+use Rattle.machine.specs.Machine.{Process}
+use Rattle.machine.specs.State.{Cells, placed, processesOf}
+use Rattle.population.specs.Arrays.{cells, shifted, written, childTag}
+use Rattle.population.proofs.Rows.{row-room, row-under, row-over}
+use Rattle.population.proofs.Loops.{shifted-in, shifted-below, written-in, written-below}
+use Rattle.stepping.specs.declared.Stepped.{Stepped}
+use Rattle.stepping.specs.Stepping.{skipping, newborn, newborns, goesOn, Room, Advanced}
+
+pub process-path : (p q : Process) → p .serial ≡ q .serial → p .template ≡ q .template → p .label ≡ q .label → p .tags ≡ q .tags → p ≡ q
+process-path p q a b c d = λ i. record { serial = a i; template = b i; label = c i; tags = d i }
+
+pub skipping-below : (k : ℕ) (f : ℕ → Process) (i : ℕ) → i < k → skipping k f i ≡ f i
+unfolding skipping
+skipping-below k f i h = rw (lt-ltb i k h)
+
+pub skipping-above : (k : ℕ) (f : ℕ → Process) (i : ℕ) → k ≤ i → skipping k f i ≡ f (i + 1)
+unfolding skipping
+skipping-above k f i h = rw (le-ltb i k h)
+
+-- ---- a process goes
+
+module _ (M k last from to : ℕ) (xs₁ xs₂ xs₃ xs₄ ys₁ ys₂ ys₃ ys₄ : List ℕ) where
+  pub left-processes : k ≤ last → from ≡ k * M → to ≡ last * M
+      → ((j : ℕ) → getD ys₁ j 0 ≡ shifted xs₁ k last 1 j)
+      → ((j : ℕ) → getD ys₂ j 0 ≡ shifted xs₂ k last 1 j)
+      → ((j : ℕ) → getD ys₃ j 0 ≡ shifted xs₃ k last 1 j)
+      → ((j : ℕ) → getD ys₄ j 0 ≡ shifted xs₄ from to M j)
+      → processesOf M last (cells ys₁ ys₂ ys₃ ys₄) ≡ tabulate last (skipping k (placed M (cells xs₁ xs₂ xs₃ xs₄)))
+  unfolding processesOf placed
+  left-processes h ef et e₁ e₂ e₃ e₄ =
+      tabulate-ext last (placed M d) (skipping k (placed M c)) (λ i l.
+      ⊎-elim
+      (λ b. process-path (placed M d i) (placed M c i)
+      (e₁ i ∙ shifted-below xs₁ k last 1 i b) (e₂ i ∙ shifted-below xs₂ k last 1 i b) (e₃ i ∙ shifted-below xs₃ k last 1 i b)
+      (tabulate-ext M (λ t. getD ys₄ (i * M + t) 0) (λ t. getD xs₄ (i * M + t) 0) (λ t w.
+      let q = row-under M i k b in e₄ (i * M + t) ∙ shifted-below xs₄ from to M (i * M + t) (omega arith)))
+      ∙ sym (skipping-below k (placed M c) i b))
+      (λ g. process-path (placed M d i) (placed M c (i + 1))
+      (e₁ i ∙ shifted-in xs₁ k last 1 i g l) (e₂ i ∙ shifted-in xs₂ k last 1 i g l) (e₃ i ∙ shifted-in xs₃ k last 1 i g l)
+      (tabulate-ext M (λ t. getD ys₄ (i * M + t) 0) (λ t. getD xs₄ ((i + 1) * M + t) 0) (λ t w.
+      let q = row-over M i k g in let r = row-under M i last l in
+      e₄ (i * M + t) ∙ shifted-in xs₄ from to M (i * M + t) (omega arith) (omega arith)
+      ∙ ap (λ (j : ℕ). getD xs₄ j 0) (sym (ap (λ (j : ℕ). j * M + t) (add-one i) ∙ (let s = suc-mul i M in omega arith)))))
+      ∙ sym (skipping-above k (placed M c) i g))
+      (lt-or-le i k))
+    where
+      c : Cells
+      c = cells xs₁ xs₂ xs₃ xs₄
+
+      d : Cells
+      d = cells ys₁ ys₂ ys₃ ys₄
+
+-- ---- a child comes
+
+module _ (xs ys : List ℕ) (at v : ℕ) (e : ys ≡ set xs at v) where
+  kept : (i : ℕ) → i < at → getD ys i 0 ≡ getD xs i 0
+  kept i h = ap (λ l. getD l i 0) e ∙ getD-set-other xs at i v 0 (λ q. omega arith)
+
+  stored : at < length xs → getD ys at 0 ≡ v
+  stored h = ap (λ l. getD l at 0) e ∙ getD-set-same xs at v 0 h
+
+module _ (M at from serial Y lab creates : ℕ) (row xs₁ xs₂ xs₃ xs₄ ys₁ ys₂ ys₃ ys₄ : List ℕ) where
+  pub entered-processes : at < 128 → M ≤ 32 → length xs₁ ≡ 128 → length xs₂ ≡ 128 → length xs₃ ≡ 128 → from ≡ at * M
+      → ys₁ ≡ set xs₁ at serial → ys₂ ≡ set xs₂ at Y → ys₃ ≡ set xs₃ at lab
+      → ((j : ℕ) → getD ys₄ j 0 ≡ written xs₄ from 32 (λ i. childTag serial creates (getD row i 0) i) j)
+      → processesOf M (at + 1) (cells ys₁ ys₂ ys₃ ys₄) ≡ processesOf M at (cells xs₁ xs₂ xs₃ xs₄) ++ (newborn M row serial Y lab creates ∷ [])
+  unfolding processesOf placed newborn
+  entered-processes h few n₁ n₂ n₃ ef e₁ e₂ e₃ e₄ =
+      ap (λ (n : ℕ). tabulate n (placed M d)) (add-one at)
+      ∙ tabulate-snoc at (placed M d)
+      ∙ ap₂ (λ (ps : List Process) (p : Process). ps ++ (p ∷ []))
+      (tabulate-ext at (placed M d) (placed M c) (λ i b.
+      process-path (placed M d i) (placed M c i) (kept xs₁ ys₁ at serial e₁ i b) (kept xs₂ ys₂ at Y e₂ i b) (kept xs₃ ys₃ at lab e₃ i b)
+      (tabulate-ext M (λ k. getD ys₄ (i * M + k) 0) (λ k. getD xs₄ (i * M + k) 0)
+      (λ k w. let q = row-under M i at b in e₄ (i * M + k) ∙ written-below xs₄ from 32 tagged (i * M + k) (omega arith)))))
+      (process-path (placed M d at) (newborn M row serial Y lab creates)
+      (stored xs₁ ys₁ at serial e₁ (omega arith)) (stored xs₂ ys₂ at Y e₂ (omega arith)) (stored xs₃ ys₃ at lab e₃ (omega arith))
+      (tabulate-ext M (λ k. getD ys₄ (at * M + k) 0) tagged
+      (λ k w. e₄ (at * M + k) ∙ written-in xs₄ from 32 tagged (at * M + k) (omega arith) (omega arith) ∙ ap tagged (omega arith))))
+    where
+      c : Cells
+      c = cells xs₁ xs₂ xs₃ xs₄
+
+      d : Cells
+      d = cells ys₁ ys₂ ys₃ ys₄
+
+      tagged : ℕ → ℕ
+      tagged i = childTag serial creates (getD row i 0) i
+
+-- ---- what the calls ask
+
+pub shift-up : (M k last from to : ℕ) → k ≤ last → from ≡ k * M → to ≡ last * M → from ≤ to
+shift-up M k last from to h ef et = let q = row-over M last k h in omega arith
+
+pub shift-room : (M last to : ℕ) (xs : List ℕ) → last < 128 → M ≤ 32 → to ≡ last * M → length xs ≡ 4096 → to + M ≤ length xs
+shift-room M last to xs l few et n = let r = row-room last M l few in omega arith
+
+pub write-room : (M at from : ℕ) (xs : List ℕ) → at < 128 → M ≤ 32 → from ≡ at * M → length xs ≡ 4096 → from + 32 ≤ length xs
+write-room M at from xs h few e n = let r = row-room at M h few in omega arith
+
+pub row-begins : (M k last from : ℕ) → k ≤ last → last < 128 → M ≤ 32 → from ≡ k * M → from + 32 ≤ 4096
+row-begins M k last from h l few e = let q = row-room k M (omega arith) few in omega arith
+
+-- ---- a process goes and its children come
+
+-- The row that was copied holds the parent's tags.
+same-newborn : (M k from serial Y lab creates : ℕ) (row gs : List ℕ) → M ≤ 32 → from ≡ k * M → row ≡ tabulate 32 (λ i. getD gs (from + i) 0)
+    → newborn M row serial Y lab creates ≡ newborn M (tabulate M (λ i. getD gs (k * M + i) 0)) serial Y lab creates
+unfolding newborn
+same-newborn M k from serial Y lab creates row gs few ef er =
+    ap (λ (ts : List ℕ). record { serial = serial; template = Y; label = lab; tags = ts })
+    (tabulate-ext M (λ i. childTag serial creates (getD row i 0) i) (λ i. childTag serial creates (getD (tabulate M (λ i. getD gs (k * M + i) 0)) i 0) i) (λ i h.
+    ap (λ (x : ℕ). childTag serial creates x i)
+    (ap (λ (l : List ℕ). getD l i 0) er ∙ getD-tabulate 32 (λ i. getD gs (from + i) 0) i 0 (omega arith) ∙ ap (λ (f : ℕ). getD gs (f + i) 0) ef
+    ∙ sym (getD-tabulate M (λ i. getD gs (k * M + i) 0) i 0 h))))
+
+-- The last of several children: gs are the tags before anything moved.
+pub come : (M k from serial Y lab creates : ℕ) (row xs ts ls gs : List ℕ) (d e : Cells) (n : ℕ) (ps : List Process) → M ≤ 32 → from ≡ k * M
+    → row ≡ tabulate 32 (λ i. getD gs (from + i) 0)
+    → processesOf M n d ≡ ps
+    → processesOf M (n + 1) e ≡ processesOf M n d ++ (newborn M row serial Y lab creates ∷ [])
+    → processesOf M (n + 1) e ≡ ps ++ (newborn M (placed M (cells xs ts ls gs) k .tags) serial Y lab creates ∷ [])
+unfolding placed
+come M k from serial Y lab creates row xs ts ls gs d e n ps few ef er ed ee =
+    ee ∙ ap₂ (λ (ps : List Process) (p : Process). ps ++ (p ∷ [])) ed (same-newborn M k from serial Y lab creates row gs few ef er)
+
+-- ---- by the number of children
+
+module _ (M next live : ℕ) (c : Cells) (k : ℕ) (heirs : Successors) (t u : Template) (r : Stepped) (d : Cells) where
+  abbrev others : List Process
+  others = tabulate (live - 1) (skipping k (placed M c))
+
+  abbrev tags : List ℕ
+  tags = placed M c k .tags
+
+  advanced : (n : ℕ) (ps : List Process) (live′ : ℕ) → heirs .count ≡ n → r ≡ goesOn (next + n) live′ → processesOf M live′ d ≡ others ++ ps
+      → newborns M tags next n (heirs .first) t (heirs .second) u ≡ ps → Advanced M next live c k heirs t u r d
+  advanced n ps live′ en er ed ep = record {
+    done = ap (λ (r : Stepped). r .answer) er;
+    serials = ap (λ (r : Stepped). r .next) er ∙ ap (λ (n : ℕ). next + n) (sym en);
+    processes =
+        ap (λ (r : Stepped). processesOf M (r .live) d) er ∙ ed
+        ∙ ap (λ (ps : List Process). others ++ ps) (sym (ap (λ (n : ℕ). newborns M tags next n (heirs .first) t (heirs .second) u) en ∙ ep));
+  }
+
+  pub advanced-none : heirs .count ≡ 0 → processesOf M (live - 1) d ≡ tabulate (live - 1) (skipping k (placed M c)) → r ≡ goesOn next (live - 1)
+      → Advanced M next live c k heirs t u r d
+  unfolding newborns
+  advanced-none en e er =
+      advanced 0 [] (live - 1) en (er ∙ ap (λ (n : ℕ). goesOn n (live - 1)) (omega arith)) (e ∙ sym (append-nil others)) refl
+
+  pub advanced-one : heirs .count ≡ 1 → k < live
+      → processesOf M (live - 1 + 1) d ≡ tabulate (live - 1) (skipping k (placed M c)) ++ (newborn M (placed M c k .tags) next (heirs .first) (t .lab) (t .creates) ∷ [])
+      → r ≡ goesOn (next + 1) live → Advanced M next live c k heirs t u r d
+  unfolding newborns
+  advanced-one en h e er =
+      advanced 1 (newborn M tags next (heirs .first) (t .lab) (t .creates) ∷ []) live en er
+      (subst (λ (n : ℕ). processesOf M n d ≡ others ++ (newborn M tags next (heirs .first) (t .lab) (t .creates) ∷ [])) (omega arith) e) refl
+
+  pub advanced-two : heirs .count ≤ 2 → (heirs .count ≡ 0 → ⊥) → (heirs .count ≡ 1 → ⊥) → k < live
+      → processesOf M (live - 1 + 1 + 1) d
+      ≡ (tabulate (live - 1) (skipping k (placed M c)) ++ (newborn M (placed M c k .tags) next (heirs .first) (t .lab) (t .creates) ∷ [])) ++ (newborn M (placed M c k .tags) (next + 1) (heirs .second) (u .lab) (u .creates) ∷ [])
+      → r ≡ goesOn (next + 2) (live + 1) → Advanced M next live c k heirs t u r d
+  unfolding newborns
+  advanced-two few n0 n1 h e er =
+      advanced 2 (newborn M tags next (heirs .first) (t .lab) (t .creates) ∷ newborn M tags (next + 1) (heirs .second) (u .lab) (u .creates) ∷ []) (live + 1) (omega arith) er
+      (subst (λ (n : ℕ). processesOf M n d ≡ others ++ (newborn M tags next (heirs .first) (t .lab) (t .creates) ∷ newborn M tags (next + 1) (heirs .second) (u .lab) (u .creates) ∷ [])) (omega arith)
+      (e ∙ append-assoc others (newborn M tags next (heirs .first) (t .lab) (t .creates) ∷ []) (newborn M tags (next + 1) (heirs .second) (u .lab) (u .creates) ∷ []))) refl
+
+-- ---- room
+
+pub fork-room : (M next live k count : ℕ) → Room M next live k count → (count ≡ 0 → ⊥) → (count ≡ 1 → ⊥)
+    → (k ≤ live - 1) × (live - 1 + 1 < 128) × (M ≤ 32) × (next + 1 < 4294967296)
+fork-room M next live k count room n0 n1 =
+    let few = room .children in
+    let two : count ≡ 2 = omega arith in
+    let spare = room .spare two in
+    (omega arith, omega arith, room .identifiers, omega arith)
+
+pub fork-serials : (M next live k count : ℕ) → Room M next live k count → (count ≡ 0 → ⊥) → (count ≡ 1 → ⊥) → next + 2 < 4294967296
+fork-serials M next live k count room n0 n1 = let few = room .children in omega arith

@@ -1,0 +1,36 @@
+-- Each array takes the child's value at the place, the tags its row.
+use borrow.Author.Needs.{needs}
+use Rattle.stepping.proofs.Moves.{write-room, entered-processes}
+use Rattle.stepping.proofs.enter.Statement.{statement}
+use Rattle.stepping.proofs.enter.Tie as tie
+
+put-requires : tie.Need-put-requires
+put-requires c κs = search needs
+
+put-u8-requires : tie.Need-put-u8-requires
+put-u8-requires c κs = search needs
+
+put-requires-2 : tie.Need-put-requires-2
+put-requires-2 c κs = search needs
+
+row-start-requires : tie.Need-row-start-requires
+row-start-requires c κs = search needs
+
+write-row-requires : tie.Need-write-row-requires
+write-row-requires c κs = search write-room
+
+returns : tie.Need-returns
+returns c = let b = c .before .before .before .before .before .before .before .before .before in
+    entered-processes _ _ _ _ _ _ _ _ (b .args .serials .now) (b .args .templates .now) (b .args .labels .now) _ _ _ _ _ (b .pre .0) (b .pre .1) (search needs) (search needs) (search needs)
+    (c .before .before .row-start .ensures .0) (c .before .before .before .before .before .before .before .put .ensures) (c .before .before .before .before .before .put-u8 .ensures) (c .before .before .before .put2 .ensures) (c .write-row .ensures)
+
+pub enter-spec : {M : Type 1} → statement M
+enter-spec =
+    tie.close
+    (tie.spec
+    put-requires
+    put-u8-requires
+    put-requires-2
+    row-start-requires
+    write-row-requires
+    returns)

@@ -1,0 +1,40 @@
+-- The parent's tags are copied before it goes; the second child comes after the first.
+use native.Mathlib.Omega.{arith}
+use borrow.Author.Needs.{needs}
+use Rattle.stepping.proofs.Moves.{row-begins, come}
+use Rattle.stepping.proofs.fork.Statement.{statement}
+use Rattle.stepping.proofs.fork.Tie as tie
+
+row-start-requires : tie.Need-row-start-requires
+row-start-requires c κs = search needs
+
+copy-row-requires : tie.Need-copy-row-requires
+copy-row-requires c κs = let b = c .before .before in row-begins (b .args .m) (b .args .k) (b .args .last) _ (b .pre .0) (omega arith) (b .pre .2) (c .before .row-start .ensures .0)
+
+replace-requires : tie.Need-replace-requires
+replace-requires c κs = search needs
+
+add-enter : tie.Need-add-enter
+add-enter c = search needs
+
+add-enter-2 : tie.Need-add-enter-2
+add-enter-2 c = search needs
+
+enter-requires : tie.Need-enter-requires
+enter-requires c κs = search needs
+
+returns : tie.Need-returns
+returns c = let b = c .before .before .before .before .before .before .before .before .before .before .before .before .before in
+    come _ _ _ _ _ _ _ _ (b .args .serials .now) (b .args .templates .now) (b .args .labels .now) (b .args .tags .now) _ _ _ _ (b .pre .2) (c .before .before .before .before .before .before .before .before .before .before .before .before .row-start .ensures .0) (c .before .before .before .before .before .before .before .before .before .before .copy-row .ensures) (c .before .before .before .before .before .replace .ensures) (c .enter .ensures)
+
+pub fork-spec : {M : Type 1} → statement M
+fork-spec =
+    tie.close
+    (tie.spec
+    row-start-requires
+    copy-row-requires
+    replace-requires
+    add-enter
+    add-enter-2
+    enter-requires
+    returns)

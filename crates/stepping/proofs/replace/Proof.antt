@@ -1,0 +1,25 @@
+-- The parent's tags are copied before it goes.
+use borrow.Author.Needs.{needs}
+use Rattle.stepping.proofs.Moves.{row-begins, come}
+use Rattle.stepping.proofs.replace.Statement.{statement}
+use Rattle.stepping.proofs.replace.Tie as tie
+
+row-start-requires : tie.Need-row-start-requires
+row-start-requires c κs = search needs
+
+copy-row-requires : tie.Need-copy-row-requires
+copy-row-requires c κs = search row-begins
+
+leave-requires : tie.Need-leave-requires
+leave-requires c κs = search needs
+
+enter-requires : tie.Need-enter-requires
+enter-requires c κs = search needs
+
+returns : tie.Need-returns
+returns c = let b = c .before .before .before .before .before .before .before .before .before .before .before .before .before in
+    come _ _ _ _ _ _ _ _ (b .args .serials .now) (b .args .templates .now) (b .args .labels .now) (b .args .tags .now) _ _ _ _ (b .pre .2) (c .before .before .before .before .before .before .before .before .before .before .before .before .row-start .ensures .0) (c .before .before .before .before .before .before .before .before .before .before .copy-row .ensures) (c .before .before .before .before .before .leave .ensures) (c .enter .ensures)
+
+pub replace-spec : {M : Type 1} → statement M
+replace-spec =
+    tie.close (tie.spec row-start-requires copy-row-requires leave-requires enter-requires returns)
