@@ -31,6 +31,14 @@ pub fn print_number(n: u64) {
     io::print_decimal(STDOUT_FILENO, n);
 }
 
+pub fn print_word(n: u32) {
+    io::print_decimal(STDOUT_FILENO, n as u64);
+}
+
+pub fn print_byte(n: u8) {
+    io::print_decimal(STDOUT_FILENO, n as u64);
+}
+
 // A digit of base 16.
 fn hex_digit(d: u8) -> u8
     requires { ⌜ d < 16 ⌝ }
@@ -45,4 +53,9 @@ fn hex_digit(d: u8) -> u8
 pub fn print_hex_byte(b: u8) {
     let digits: [u8; 2] = [hex_digit(b / 16), hex_digit(b % 16)];
     io::write_all(STDOUT_FILENO, &digits);
+}
+
+// Eight digits of base 16.
+pub fn print_hex_word(n: u32) {
+    io::print_hex(STDOUT_FILENO, n as u64, 8);
 }

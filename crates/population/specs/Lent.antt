@@ -1,6 +1,6 @@
 -- What an operation on lent arrays promises: the answer and what the arrays mean at its end are the machine's outcome,
 -- and a refused call leaves next, live and the arrays literally as they were.
--- Believed by: the contracts of crates delivery, stepping and labelling.
+-- Believed: everything here. The contracts of crates delivery, stepping, labelling and monitor cite it.
 use Prim.Native.Nat.{ℕ, zero, suc}
 use mathlib.Core.Path.{_≡_}
 use Rattle.plan.specs.declared.Plan.{Plan}

@@ -121,6 +121,7 @@ fn refusal(
     0
 }
 
+// Stores through a slice: a slice's length is known after it, that of a lent array is not.
 fn put(xs: &mut [u32], at: usize, v: u32)
     requires { ⌜ at < length (now xs) ⌝ }
     ensures { λ _. ⌜ now (xs .exit) ≡ set (now (xs .entry)) at v ⌝ }

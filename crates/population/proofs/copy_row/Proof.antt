@@ -40,11 +40,13 @@ loop-less : tie.Need-loop-less Inv-loop μ-loop
 loop-less c = search needs
 
 loop-again : tie.Need-loop-again Inv-loop μ-loop
-loop-again c = let l = c .before .before .loop in
+loop-again c =
+    let l = c .before .before .loop in
     (omega arith, simp length-set (l .inv .1), filled-more _ (l .row) (l .i) _ (omega arith) refl (l .inv .2))
 
 returns : tie.Need-returns Inv-loop μ-loop
-returns c = let l = c .before .loop in
+returns c =
+    let l = c .before .loop in
     let e : l .i ≡ 32 = omega arith in
     filled-all _ (l .row) 32 (l .inv .1) (rw e at (l .inv .2))
 

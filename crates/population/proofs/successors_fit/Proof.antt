@@ -14,7 +14,8 @@ below-requires-2 : tie.Need-below-requires-2
 below-requires-2 c κs = search needs
 
 returns : tie.Need-returns
-returns c = let s = c .before .before .before .before .successors-of in
+returns c =
+    let s = c .before .before .before .before .successors-of in
     successors-gathered _ (s .result .count) _ _ _ _ _ (s .ensures) (c .before .before .below .ensures) (c .below2 .ensures)
 
 pub successors-fit-spec : {M : Type 1} → statement M

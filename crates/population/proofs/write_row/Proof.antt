@@ -46,7 +46,8 @@ loop-less : tie.Need-loop-less Inv-loop μ-loop
 loop-less c = search needs
 
 loop-again : tie.Need-loop-again Inv-loop μ-loop
-loop-again c = let l = c .before .before .loop in
+loop-again c =
+    let l = c .before .before .loop in
     (omega arith, simp length-set (l .inv .1), written-more _ (l .tags) _ (l .i) _ (c .child-tag .result) (omega arith) (c .child-tag .ensures) (l .inv .2))
 
 same-length : tie.Need-same-length Inv-loop μ-loop

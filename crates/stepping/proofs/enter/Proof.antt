@@ -20,9 +20,13 @@ write-row-requires : tie.Need-write-row-requires
 write-row-requires c κs = search write-room
 
 returns : tie.Need-returns
-returns c = let b = c .before .before .before .before .before .before .before .before .before in
+returns c =
+    let labels = c .before .before .before in
+    let templates = labels .before .before in
+    let serials = templates .before .before in
+    let b = serials .before .before in
     entered-processes _ _ _ _ _ _ _ _ (b .args .serials .now) (b .args .templates .now) (b .args .labels .now) _ _ _ _ _ (b .pre .0) (b .pre .1) (search needs) (search needs) (search needs)
-    (c .before .before .row-start .ensures .0) (c .before .before .before .before .before .before .before .put .ensures) (c .before .before .before .before .before .put-u8 .ensures) (c .before .before .before .put2 .ensures) (c .write-row .ensures)
+    (c .before .before .row-start .ensures .0) (serials .put .ensures) (templates .put-u8 .ensures) (labels .put2 .ensures) (c .write-row .ensures)
 
 pub enter-spec : {M : Type 1} → statement M
 enter-spec =

@@ -24,8 +24,12 @@ enter-requires : tie.Need-enter-requires
 enter-requires c κs = search needs
 
 returns : tie.Need-returns
-returns c = let b = c .before .before .before .before .before .before .before .before .before .before .before .before .before in
-    come _ _ _ _ _ _ _ _ (b .args .serials .now) (b .args .templates .now) (b .args .labels .now) (b .args .tags .now) _ _ _ _ (b .pre .2) (c .before .before .before .before .before .before .before .before .before .before .before .before .row-start .ensures .0) (c .before .before .before .before .before .before .before .before .before .before .copy-row .ensures) (c .before .before .before .before .before .replace .ensures) (c .enter .ensures)
+returns c =
+    let gone = c .before .before .before .before .before in
+    let copied = gone .before .before .before .before .before in
+    let b = copied .before .before .before in
+    come _ _ _ _ _ _ _ _ (b .args .serials .now) (b .args .templates .now) (b .args .labels .now) (b .args .tags .now) _ _ _ _ (b .pre .2)
+    (copied .before .before .row-start .ensures .0) (copied .copy-row .ensures) (gone .replace .ensures) (c .enter .ensures)
 
 pub fork-spec : {M : Type 1} → statement M
 fork-spec =

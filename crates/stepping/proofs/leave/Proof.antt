@@ -23,8 +23,13 @@ shift-requires-3 : tie.Need-shift-requires-3
 shift-requires-3 c κs = (shift-up _ _ _ _ _ (c .before .before .before .before .before .before .before .before .before .pre .0) (c .before .before .row-start .ensures .0) (c .before .row-start2 .ensures .0), search shift-room)
 
 returns : tie.Need-returns
-returns c = left-processes _ _ _ _ _ _ _ _ _ _ _ _ _ (c .before .before .before .before .before .before .before .before .before .before .pre .0) (c .before .before .before .row-start .ensures .0) (c .before .before .row-start2 .ensures .0) (c .before .before .before .before .before .before .before .before .shift .ensures)
-    (c .before .before .before .before .before .before .shift-u8 .ensures) (c .before .before .before .before .shift2 .ensures) (c .shift3 .ensures)
+returns c =
+    let rows = c .before .before in
+    let labels = rows .before .before in
+    let templates = labels .before .before in
+    let serials = templates .before .before in
+    left-processes _ _ _ _ _ _ _ _ _ _ _ _ _ (serials .before .before .pre .0) (rows .before .row-start .ensures .0) (rows .row-start2 .ensures .0)
+    (serials .shift .ensures) (templates .shift-u8 .ensures) (labels .shift2 .ensures) (c .shift3 .ensures)
 
 pub leave-spec : {M : Type 1} → statement M
 leave-spec =

@@ -24,7 +24,7 @@ returns-2 : tie.Need-returns-2
 returns-2 c = search step-gone
 
 step-at-requires : tie.Need-step-at-requires
-step-at-requires c κs = (formed _ _ _ _ _ (c .before .before .before .before .before .before .before .before .before .is-well-formed .ensures) (c .before .before .before .before .before .before .before .before .if1 .left), search needs)
+step-at-requires c κs = let b = c .before .before .before .before .before .before .before .before in (formed _ _ _ _ _ (b .before .is-well-formed .ensures) (b .if1 .left), search needs)
 
 returns-3 : tie.Need-returns-3
 returns-3 c = search step-live

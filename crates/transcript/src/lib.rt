@@ -1,0 +1,152 @@
+// What the program replay prints of two texts and a text of calls. A pair that is not accepted is answered as judge
+// answers it. Else each call is answered on a line, and the state that the calls leave follows; a line that is no call
+// ends the run.
+use machine::State;
+use rules::Verdict;
+use script::Script;
+ghost use Prim.Native.Nat.{_≤_};
+ghost use mathlib.Core.Path.{_≡_};
+ghost use lib.ListN.{length};
+
+// The longest text of calls.
+const LONGEST: usize = 65536;
+
+fn print_answer(code: u8) {
+    match code {
+        0 => {
+            console::print(b"done\n");
+        }
+        1 => {
+            console::print(b"delivered\n");
+        }
+        2 => {
+            console::print(b"held\n");
+        }
+        n => {
+            console::print(b"refused ");
+            console::print_number(n as u64);
+            console::print(b"\n");
+        }
+    }
+}
+
+fn print_answers(answers: &[u8], n: usize) {
+    let mut i = 0;
+    while i < answers.len() {
+        if n <= i {
+            return;
+        }
+        print_answer(answers[i]);
+        i += 1;
+    }
+}
+
+// The tags from one place on and before another, with commas between them.
+fn print_tags(tags: &[u32], from: usize, to: usize) {
+    let mut i = from;
+    while i < to {
+        if tags.len() <= i {
+            return;
+        }
+        if from < i {
+            console::print(b",");
+        }
+        console::print_word(tags[i]);
+        i += 1;
+    }
+}
+
+fn print_process(state: State, place: usize) {
+    let plan = state.plan;
+    let m = plan.identifiers;
+    if 32 < m {
+        return;
+    }
+    if 128 <= place {
+        return;
+    }
+    console::print(b"serial=");
+    console::print_word(state.serials[place]);
+    console::print(b" template=");
+    console::print_byte(state.templates[place]);
+    console::print(b" label=");
+    console::print_hex_word(state.labels[place]);
+    console::print(b" tags=");
+    print_tags(
+        &state.tags,
+        population::row_start(place, m),
+        population::row_start(place + 1, m),
+    );
+    console::print(b"\n");
+}
+
+fn print_state(state: State) {
+    console::print(b"next=");
+    console::print_number(state.next as u64);
+    console::print(b" live=");
+    console::print_number(state.live as u64);
+    console::print(b"\n");
+    let mut place = 0;
+    while place < state.live {
+        print_process(state, place);
+        place += 1;
+    }
+}
+
+// The answers, and then the state, or the line that is no call.
+fn print_run(answers: &[u8], count: usize, state: State, fault: bool, line: u64) {
+    print_answers(answers, count);
+    if fault {
+        console::print(b"unread ");
+        console::print_figure(b"line=", line);
+        return;
+    }
+    print_state(state);
+}
+
+// The words of the calls; a text that is too long is one fault, at line 0.
+fn script_of(text: &[u8], words: &mut [u32]) -> Script
+    ensures { λ r. ⌜ r .count ≤ length (now (words .exit)) ⌝ }
+{
+    if LONGEST < text.len() {
+        return Script {
+            count: 0,
+            fault: true,
+        };
+    }
+    script::read_calls(text, words)
+}
+
+fn line_of(text: &[u8], count: usize) -> u64 {
+    if LONGEST < text.len() {
+        return 0;
+    }
+    (count / 3) as u64 + 1
+}
+
+fn word_room() -> [u32; 24576]
+    ensures { λ r. ⌜ 24576 ≡ length r ⌝ }
+{
+    [0; 24576]
+}
+
+fn answer_room() -> [u8; 8192]
+    ensures { λ r. ⌜ 8192 ≡ length r ⌝ }
+{
+    [0; 8192]
+}
+
+pub fn print_replay<'a>(plan: &'a [u8], policy: &'a [u8], text: &'a [u8]) {
+    let mut words = word_room();
+    let script = script_of(text, &mut words);
+    let n = script.count;
+    let mut answers = answer_room();
+    let r = playback::replay(plan, policy, &words[0..n], &mut answers);
+    let verdict = r.verdict;
+    let state = r.state;
+    if let Verdict::Accepted = verdict {
+        print_run(&answers, r.count, state, script.fault, line_of(text, n));
+    } else {
+        report::print_verdict(verdict);
+    }
+}
