@@ -20,7 +20,8 @@ use Rattle.machine.specs.Machine.{Process, Machine, Outcome, Call, raise, lower
 use Rattle.machine.specs.State.{Cells, placed, processesOf, machineFrom}
 use Rattle.machine.proofs.Places.{relabel-at}
 use Rattle.population.specs.Arrays.{cells}
-use Rattle.population.specs.Lent.{ifRefused, Did, answerFor}
+use Rattle.machine.specs.State.{ifRefused}
+use Rattle.population.specs.Lent.{Did, answerFor}
 use Rattle.population.proofs.Fits.{formed, few-live, few-identifiers}
 use Rattle.population.proofs.Lent.{did-refused, refuse-yes, refuse-no, refuse-done, settled-refused, settled-done, run-bad, run-formed, found-none, found-some, found-serial, alone}
 use Rattle.labelling.specs.Labelling.{refusalOf}

@@ -10,6 +10,8 @@ use Rattle.rules.specs.declared.Verdict.{Verdict}
 use Rattle.rules.specs.declared.Verdict.the-variants.{Accepted, Broken, Unread}
 use Rattle.rules.specs.Judge.{judge}
 use Rattle.machine.specs.declared.State.{State}
+use Rattle.machine.specs.declared.Answer.{Answer}
+use Rattle.machine.specs.declared.Answer.the-variants.{Done, Delivered, Held, Refused}
 use Rattle.machine.specs.declared.Answered.{Answered}
 use Rattle.machine.specs.Machine.{Process, Machine, Outcome, start}
 
@@ -45,6 +47,13 @@ machineOf s = machineFrom (s .plan) (s .next) (s .live) (cellsOf s)
 -- What an operation's answer means.
 unfoldable pub outcomeOf : Answered → Outcome
 outcomeOf r = record { answer = r .answer; machine = machineOf (r .state) }
+
+-- P holds where the answer is a refusal: what an operation promises of the state that it then hands back.
+unfoldable pub ifRefused : Answer → Type 0 → Type 0
+ifRefused Done P = Prim.Unit
+ifRefused Delivered P = Prim.Unit
+ifRefused Held P = Prim.Unit
+ifRefused (Refused n) P = P
 
 -- The state that start hands back beside a verdict that is not accepted.
 abbrev pub blankState : State

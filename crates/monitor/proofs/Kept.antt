@@ -5,7 +5,8 @@ use Rattle.machine.specs.declared.Answer.{Answer}
 use Rattle.machine.specs.declared.Answer.the-variants.{Done, Delivered, Held, Refused}
 use Rattle.machine.specs.declared.State.{State}
 use Rattle.machine.specs.State.{Cells, cellsOf}
-use Rattle.population.specs.Lent.{ifRefused, Same}
+use Rattle.machine.specs.State.{ifRefused}
+use Rattle.population.specs.Lent.{Same}
 
 -- The state with other figures and cells.
 abbrev pub rebuilt : State → ℕ → ℕ → Cells → State

@@ -1,5 +1,5 @@
-// The monitor's operations by value. Each takes any state at all and hands back the machine's answer and the machine's
-// state; refused, the very state that it got. The work is done on lent arrays by the crates below: see
+// The monitor's operations by value. Start judges two texts. Each other takes any state at all and hands back the
+// machine's answer and the machine's state; refused, the very state that it got. The work is done on lent arrays by the crates below: see
 // docs/ARCHITECTURE.md on why no state goes further down by value.
 use machine::Answered;
 use machine::Started;
@@ -12,8 +12,7 @@ ghost use mathlib.Core.Logic.{_≢_};
 ghost use Rattle.rules.specs.declared.Verdict.the-variants.{Accepted};
 ghost use Rattle.rules.specs.Judge.{judge};
 ghost use Rattle.machine.specs.Machine.{boxLimits, step, send, raise, lower, run, start};
-ghost use Rattle.machine.specs.State.{machineOf, outcomeOf, blankState, started};
-ghost use Rattle.population.specs.Lent.{ifRefused};
+ghost use Rattle.machine.specs.State.{machineOf, outcomeOf, ifRefused, blankState, started};
 
 // What stands beside a verdict that is not accepted.
 fn blank_state() -> State

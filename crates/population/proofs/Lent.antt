@@ -16,7 +16,8 @@ use Rattle.machine.specs.declared.Answer.the-variants.{Done, Refused}
 use Rattle.machine.specs.Machine.{Machine, Outcome, Call, boxLimits, wellFormed, find, rising, settled, ifDone, refuseIf, answerTo, run}
 use Rattle.machine.specs.State.{Cells, placed, processesOf, machineFrom}
 use Rattle.machine.proofs.Places.{find-live, find-gone, places-differ}
-use Rattle.population.specs.Lent.{outcomeFrom, ifRefused, Did}
+use Rattle.machine.specs.State.{ifRefused}
+use Rattle.population.specs.Lent.{outcomeFrom, Did}
 use Rattle.population.proofs.Fits.{formed-rising}
 
 -- ---- the ways out of a call

@@ -1,24 +1,17 @@
 -- What an operation on lent arrays promises: the answer and what the arrays mean at its end are the machine's outcome,
 -- and a refused call leaves next, live and the arrays literally as they were.
--- Believed: everything here. The contracts of crates delivery, stepping, labelling and monitor cite it.
+-- Not to be believed: the contracts of the operations by value do not name it.
 use Prim.Native.Nat.{ℕ, zero, suc}
 use mathlib.Core.Path.{_≡_}
 use Rattle.plan.specs.declared.Plan.{Plan}
 use Rattle.machine.specs.declared.Answer.{Answer}
-use Rattle.machine.specs.declared.Answer.the-variants.{Done, Delivered, Held, Refused}
+use Rattle.machine.specs.declared.Answer.the-variants.{Done, Refused}
 use Rattle.machine.specs.Machine.{Outcome}
-use Rattle.machine.specs.State.{Cells, machineFrom}
+use Rattle.machine.specs.State.{Cells, machineFrom, ifRefused}
 
 -- An answer beside the plan, the next serial, the number of live processes and the arrays.
 abbrev pub outcomeFrom : Answer → Plan → ℕ → ℕ → Cells → Outcome
 outcomeFrom answer plan next live cells = record { answer = answer; machine = machineFrom plan next live cells }
-
--- P holds where the answer is a refusal.
-unfoldable pub ifRefused : Answer → Type 0 → Type 0
-ifRefused Done P = Prim.Unit
-ifRefused Delivered P = Prim.Unit
-ifRefused Held P = Prim.Unit
-ifRefused (Refused n) P = P
 
 -- Nothing was touched.
 pub record Same (next live : ℕ) (cells : Cells) (next′ live′ : ℕ) (cells′ : Cells) : Type 0 where

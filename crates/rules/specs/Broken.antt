@@ -1,6 +1,6 @@
 -- What a verdict of broken says (document 01, "The judge"): the rule that it names is broken at the figures that it
 -- gives, and every rule before it in the document's order holds. "Broken gives the first broken rule."
--- Believed: everything here. Proved against it: crate rules, of every verdict of Judge.antt.
+-- Not to be believed beside Judge.antt: the law `broken-first` says that the two are the same.
 use Prim.Native.Nat.{ℕ, _<_}
 use mathlib.Core.Path.{_≡_}
 use mathlib.Core.Bool.{Bool, true, false}

@@ -22,7 +22,8 @@ use Rattle.machine.specs.Machine.{Process, step, boxLimits, wellFormed, tag, re
 use Rattle.machine.specs.State.{Cells, placed, processesOf, machineFrom}
 use Rattle.machine.proofs.Places.{remove-at}
 use Rattle.population.specs.Arrays.{childTag}
-use Rattle.population.specs.Lent.{ifRefused, Same, Did, answerFor}
+use Rattle.machine.specs.State.{ifRefused}
+use Rattle.population.specs.Lent.{Same, Did, answerFor}
 use Rattle.population.proofs.Fits.{length-processes, formed-live, formed-plan, plan-few}
 use Rattle.population.proofs.Lent.{did-refused, did-same, settled-refused, settled-done, run-bad, run-formed, found-none, found-some, found-serial, alone}
 use Rattle.stepping.specs.declared.Stepped.{Stepped}

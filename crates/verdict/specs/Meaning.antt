@@ -1,5 +1,5 @@
 -- What accepted and broken say of two texts: both read, and every rule holds, or the breach is the first broken rule.
--- Believed: everything here. Proved against it: crate verdict, of every two texts.
+-- Not to be believed beside Judge.antt: the laws `accepted-exactly` and `broken-exactly` say that the two are the same.
 use Prim.Native.Nat.{ℕ}
 use mathlib.Core.Path.{_≡_}
 use mathlib.Core.List.{List}
