@@ -1,6 +1,6 @@
 -- The monitor's machine (document 01, "The monitor's machine").
 -- Read this to know what step, send, raise and lower answer. Masks are seen through `has` alone.
--- Believed: everything here. Proved against it: crate monitor.
+-- Believed: everything here. Proved against it: crates delivery, stepping, labelling and monitor.
 use Prim.Native.Nat.{ℕ, suc, _+_, _-_, _^_}
 use mathlib.Core.Bool.{Bool, true, false, not, cond, _&&_, _||_}
 use mathlib.Core.List.{List, [], _∷_, _++_, map}

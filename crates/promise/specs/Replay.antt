@@ -1,5 +1,5 @@
 -- A whole list of calls: the machine that it leaves and the answers that it gives, and how `replay` is handed them.
--- Believed: everything here. Proved against it: the function replay.
+-- Believed: everything here. Proved against it: crate playback.
 use Prim.Native.Nat.{ℕ, zero, suc, _+_, _*_}
 use mathlib.Core.List.{List, [], _∷_}
 use lib.ListN.{getD}

@@ -1,6 +1,6 @@
 -- The verdict: the first broken rule in document 01's order, with its figures ("The judge").
--- Believed: everything here. Proved against it: crate rules; and accepted is said exactly when every rule of
--- Rules.antt holds.
+-- Believed: everything here. Proved against it: crates edges, assertions and verdict; and accepted is said exactly when
+-- every rule of Rules.antt holds.
 use Prim.Native.Nat.{ℕ, zero, suc}
 use Prim.Native.String.{String}
 use mathlib.Core.Bool.{Bool, not, cond, _&&_, _||_}

@@ -1,5 +1,5 @@
 -- Rules 11 to 19, one by one (document 01, "The judge"). N is the number of templates, M that of identifiers.
--- Believed: everything here. Proved against it: crate rules.
+-- Believed: everything here. Proved against it: crates edges and assertions; rules 12, 13 and 16 also crate stepping.
 use Prim.Native.Nat.{ℕ, _<_}
 use mathlib.Core.Path.{_≡_}
 use mathlib.Core.Logic.{_⊎_}

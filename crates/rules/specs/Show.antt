@@ -1,5 +1,5 @@
 -- Where the shown part lies (document 01, "Showing").
--- Believed: everything here. Proved against it: crate rules.
+-- Believed: everything here. Proved against it: crate showing.
 use Prim.Native.Nat.{ℕ, zero, suc, _+_, _-_, _*_}
 use mathlib.Core.Bool.{cond}
 use mathlib.Core.List.{List}

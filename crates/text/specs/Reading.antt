@@ -1,7 +1,7 @@
 -- Reading the plan and the policy, line by line (document 01, "The two texts" and "Reading").
 -- A reader goes from a cursor to a value and the next cursor. Once a line is refused the cursor stays there: later
 -- lines are not looked at, and what they give is blank and of no account.
--- Believed: everything here. Proved against it: crate text.
+-- Believed: everything here. Proved against it: crates text and reader.
 use Prim.Native.Nat.{ℕ, zero, suc, _+_, _-_}
 use Prim.Native.String.{String}
 use mathlib.Core.Bool.{false, cond, _&&_}
