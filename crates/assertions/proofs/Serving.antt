@@ -14,8 +14,7 @@ use Rattle.plan.specs.declared.Assertion.{Assertion}
 use Rattle.plan.specs.Plan.{at}
 use Rattle.plan.specs.Range.{InRange}
 use Rattle.route.specs.Search.{sharesTag}
-use Rattle.rules.specs.Rules.{wearable}
-use Rattle.rules.specs.Judge.{serves}
+use Rattle.rules.specs.Judge.{serves, wearable}
 use Rattle.assertions.specs.Kept.{keeps}
 
 -- ---- one template

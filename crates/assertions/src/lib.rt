@@ -12,8 +12,7 @@ ghost use Rattle.lists.specs.Numbers.{every, any};
 ghost use Rattle.mask.specs.Mask.{has};
 ghost use Rattle.plan.specs.Plan.{at};
 ghost use Rattle.plan.specs.Range.{InRange};
-ghost use Rattle.rules.specs.Rules.{wearable};
-ghost use Rattle.rules.specs.Judge.{firstBelow, serves, checkProt, checkAssertion, checkAssertions};
+ghost use Rattle.rules.specs.Judge.{firstBelow, serves, checkProt, checkAssertion, checkAssertions, wearable};
 ghost use Rattle.assertions.specs.Kept.{keeps};
 
 // Whether template x is in declass or may not remove t.

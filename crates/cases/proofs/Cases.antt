@@ -2,15 +2,15 @@
 use mathlib.Core.Path.{_≡_, refl}
 use mathlib.Core.List.{List, [], _∷_, map}
 use Rattle.lists.specs.Numbers.{every, any, lowest, tabulate, all}
-use Rattle.mask.specs.Mask.{has, within, without, plus}
+use Rattle.mask.specs.Mask.{has, without, plus}
+use Rattle.mask.specs.Sets.{within}
 use Rattle.plan.specs.Plan.{at, assertionAt, successors, creates}
 use Rattle.lists.proofs.Tests.{both, either}
 use Rattle.route.specs.Search.{chosen, including, collect, only, meet, enterAll, isOpen, enter, reach, ways, targets, holds, passes as passesWay, crosses, branchesCross, forkCrosses, leads, anyIn, sharesTag, splitsTag}
 use Rattle.scan.specs.Bytes.{before, startsWith, same, standsIn}
 use Rattle.field.specs.Fields.{andThen, digit, digits, decimal, number, templateNumber, mask, nameByte, name, pair, form, risk, kind, misplaced, declass}
 use Rattle.text.specs.Reading.{field, settle, line, entry, entries, plan, assertion, assertions, policy, closed, checked, ifComplete, readPlan, readPolicy}
-use Rattle.rules.specs.Rules.{wearable}
-use Rattle.rules.specs.Judge.{orElse, firstBelow, firstIn, lowestOffender, creator, nextCreator, check11, checkEdge, checkEdges, serves, checkProt, checkAssertion, checkAssertions, judgeRead, afterReading, judge, report}
+use Rattle.rules.specs.Judge.{orElse, firstBelow, firstIn, lowestOffender, creator, nextCreator, check11, checkEdge, checkEdges, serves, checkProt, checkAssertion, checkAssertions, judgeRead, afterReading, judge, report, wearable}
 use Rattle.machine.specs.Machine.{tag, refuseIf, ifDone, templateFits, planFits, processFits, rising, populationFits, wellFormed, find, remove, branchFits, children, mayBecome, child, spawn, stepAnswer, stepped, settled, stepBy, passes, sendBy, moveAnswer, relabel, moved, raiseBy, lowerBy, answerTo, run, root, start}
 use Rattle.machine.specs.State.{placed, processesOf, machineFrom, machineOf, startOn, started}
 use Rattle.promise.specs.Replay.{machineAfter}

@@ -5,7 +5,7 @@ use mathlib.Core.List.{List, [], _∷_, _++_, map}
 use Rattle.text.specs.declared.Reading.{Reading}
 use Rattle.text.specs.declared.Reading.the-variants.{Complete}
 use Rattle.text.specs.Reading.{readPlan}
-use Rattle.rules.specs.Judge.{judge, Line, says, word, figure, report}
+use Rattle.rules.specs.Judge.{judge, Line, says, counts, report}
 use Rattle.machine.specs.declared.Answer.{Answer}
 use Rattle.machine.specs.declared.Answer.the-variants.{Done, Delivered, Held, Refused}
 use Rattle.machine.specs.Machine.{Process, Machine, boxLimits, Call, step, send, raise, run}
@@ -49,16 +49,16 @@ abbrev pub _gives_ : Question → Reply → Row
 _gives_ question answer = record { asked = question; told = answer }
 
 abbrev pub accepted : Reply
-accepted = prints (says "verdict" (word "accepted") ∷ [])
+accepted = prints (says "verdict" "accepted" ∷ [])
 
 abbrev pub broken : ℕ → ℕ → ℕ → ℕ → Reply
 broken rule first second identifier = prints (
-    says "verdict" (word "broken") ∷ says "rule" (figure rule) ∷ says "first" (figure first)
-    ∷ says "second" (figure second) ∷ says "identifier" (figure identifier) ∷ [])
+    says "verdict" "broken" ∷ counts "rule" rule ∷ counts "first" first
+    ∷ counts "second" second ∷ counts "identifier" identifier ∷ [])
 
 abbrev pub unread : String → ℕ → ℕ → Reply
 unread name number line = prints (
-    says "verdict" (word "unread") ∷ says "text" (word name) ∷ says "number" (figure number) ∷ says "line" (figure line) ∷ [])
+    says "verdict" "unread" ∷ says "text" name ∷ counts "number" number ∷ counts "line" line ∷ [])
 
 -- "Run of a, branches 0: steps of 0, 1, 2, 3, 5."
 abbrev pub runOfA : List Call

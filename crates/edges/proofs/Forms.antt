@@ -9,7 +9,8 @@ use mir.Val.{Fits}
 use Rattle.plan.specs.declared.Plan.{Plan}
 use Rattle.plan.specs.declared.Template.{Template}
 use Rattle.plan.specs.declared.Successors.{Successors}
-use Rattle.plan.specs.Plan.{at, successors, listFor, listed}
+use Rattle.plan.specs.Plan.{at, successors}
+use Rattle.plan.specs.Listed.{listFor, listed}
 use Rattle.plan.specs.Range.{InRange}
 use Rattle.rules.specs.declared.Verdict.{Verdict}
 use Rattle.rules.specs.declared.Verdict.the-variants.{Accepted, Broken, Unread}

@@ -18,8 +18,7 @@ use Rattle.plan.specs.Plan.{at}
 use Rattle.plan.specs.Range.{Below, InRange}
 use Rattle.rules.specs.declared.Verdict.{Verdict}
 use Rattle.rules.specs.declared.Verdict.the-variants.{Accepted}
-use Rattle.rules.specs.Rules.{offends12, offends13, offends14, offends15, offends16}
-use Rattle.rules.specs.Judge.{broken, orElse, lowestOffender, checkEdge}
+use Rattle.rules.specs.Judge.{broken, orElse, lowestOffender, checkEdge, offends12, offends13, offends14, offends15, offends16}
 use Rattle.edges.specs.Wide.{Marks, offence, rightsOf, edgeOf}
 
 -- ---- what is in the mask

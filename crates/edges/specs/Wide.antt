@@ -10,10 +10,9 @@ use Rattle.mask.specs.Mask.{has}
 use Rattle.plan.specs.declared.Template.{Template}
 use Rattle.plan.specs.declared.Plan.{Plan}
 use Rattle.plan.specs.Plan.{creates}
-use Rattle.rules.specs.Rules.{offends12, offends13, offends14, offends15, offends16}
 use Rattle.rules.specs.declared.Verdict.{Verdict}
 use Rattle.rules.specs.declared.Verdict.the-variants.{Accepted}
-use Rattle.rules.specs.Judge.{broken, orElse}
+use Rattle.rules.specs.Judge.{broken, orElse, offends12, offends13, offends14, offends15, offends16}
 
 -- The items of the mask are those that pass the test.
 abbrev pub Marks : ℕ → (ℕ → Bool) → Type 0

@@ -8,8 +8,7 @@ ghost use lib.Dec.{ltb};
 ghost use Rattle.mask.specs.Mask.{has};
 ghost use Rattle.plan.specs.Plan.{at, successors};
 ghost use Rattle.plan.specs.Range.{InRange};
-ghost use Rattle.rules.specs.Rules.{offends12, offends13, offends14, offends15, offends16};
-ghost use Rattle.rules.specs.Judge.{firstIn, nextCreator, check11, checkEdge, checkEdges};
+ghost use Rattle.rules.specs.Judge.{firstIn, nextCreator, check11, checkEdge, checkEdges, offends12, offends13, offends14, offends15, offends16};
 ghost use Rattle.edges.specs.Wide.{Marks, offence, rightsOf, edgeOf, creatorFrom};
 
 // The identifiers that break a rule on an edge to template y; lab is that of the template, or of the process, before.

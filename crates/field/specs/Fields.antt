@@ -1,17 +1,12 @@
 -- The fields of the two texts, each read from the rest of its line (document 01, "The two texts").
--- Refusals: 2 not of its layout, 3 out of range, 4 a mask beyond the plan, 5 a name that stood earlier, 6 a declass
--- that its kind forbids. On one line the tests come in that order.
+-- Refusals, in order: 2 layout, 3 range, 4 a mask beyond the plan, 5 a name that stood earlier, 6 a forbidden declass.
 -- Believed: everything here. Proved against it: crate field.
 use Prim.Native.Nat.{ℕ, _+_, _-_, _*_, _^_}
-use mathlib.Core.Bool.{Bool, true, false, not, cond, _&&_, _||_}
-use mathlib.Core.List.{List, [], _∷_}
-use lib.Dec.{eqb, leb, ltb}
-use lib.ListN.{length, getD, take, drop}
+use mathlib.Core.{Bool.{Bool, true, false, not, cond, _&&_, _||_}, List.{List, [], _∷_}}
+use lib.{Dec.{eqb, leb, ltb}, ListN.{length, getD, take, drop}}
 use Rattle.lists.specs.Numbers.{all}
 use Rattle.mask.specs.Mask.{has}
-use Rattle.plan.specs.declared.Form.{Form}
-use Rattle.plan.specs.declared.Form.the-variants.{End, Go, Either, Both}
-use Rattle.plan.specs.declared.Kind.{Kind}
+use Rattle.plan.specs.declared.{Form.{Form, the-variants.{End, Go, Either, Both}}, Kind.{Kind}}
 use Rattle.plan.specs.declared.Kind.the-variants.{Secrecy, Prot}
 use Rattle.scan.specs.Bytes.{bytes, before, startsWith, same, standsIn}
 
@@ -37,9 +32,7 @@ digits base acc (b ∷ s) = cond (ltb (digit b) base) (digits base (acc * base +
 -- "Decimal, 1 to 4 digits, no leading zero except in `0`."
 unfoldable pub decimal : List ℕ → Field ℕ
 decimal s =
-    cond (ltb 0 (length s) && (leb (length s) 4 && (eqb (length s) 1 || not (eqb (getD s 0 0) 48))))
-    (digits 10 0 s)
-    (bad 2)
+    cond (ltb 0 (length s) && (leb (length s) 4 && (eqb (length s) 1 || not (eqb (getD s 0 0) 48)))) (digits 10 0 s) (bad 2)
 
 -- A number from low on and below the limit; the refusal out of range has the given number.
 unfoldable pub number : ℕ → ℕ → ℕ → List ℕ → Field ℕ
@@ -52,9 +45,7 @@ templateNumber N = number 3 0 N
 -- "Masks are lowercase hexadecimal", of so many digits, over so many items.
 unfoldable pub mask : ℕ → ℕ → List ℕ → Field ℕ
 mask width items s =
-    cond (eqb (length s) width)
-    (andThen (digits 16 0 s) (λ m. cond (ltb m (2 ^ items)) (is m) (bad 4)))
-    (bad 2)
+    cond (eqb (length s) width) (andThen (digits 16 0 s) (λ m. cond (ltb m (2 ^ items)) (is m) (bad 4))) (bad 2)
 
 -- "1 to 16 of a-z, 0-9"; 5: "the name stood earlier".
 unfoldable pub nameByte : ℕ → Bool
@@ -62,9 +53,7 @@ nameByte b = (leb 97 b && leb b 122) || (leb 48 b && leb b 57)
 
 unfoldable pub name : List (List ℕ) → List ℕ → Field (List ℕ)
 name stood s =
-    cond (ltb 0 (length s) && (leb (length s) 16 && all nameByte s))
-    (cond (standsIn s stood) (bad 5) (is s))
-    (bad 2)
+    cond (ltb 0 (length s) && (leb (length s) 16 && all nameByte s)) (cond (standsIn s stood) (bad 5) (is s)) (bad 2)
 
 -- Two template numbers with a comma between them; the layout of both comes before their range.
 unfoldable pub pair : ℕ → (ℕ → ℕ → Form) → List ℕ → Field Form

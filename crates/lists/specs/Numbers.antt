@@ -1,8 +1,7 @@
 -- Tests over the numbers below a limit, lists made from a function, and functions changed at one number.
 -- Believed: everything here. No word of any domain stands in this crate.
 use Prim.Native.Nat.{ℕ, zero, suc}
-use mathlib.Core.Bool.{Bool, true, false, _&&_, _||_, cond}
-use mathlib.Core.List.{List, [], _∷_}
+use mathlib.Core.{Bool.{Bool, true, false, _&&_, _||_, cond}, List.{List, [], _∷_}}
 use lib.Dec.{eqb}
 
 -- p holds at each number below n.

@@ -1,22 +1,15 @@
 -- The monitor's machine (document 01, "The monitor's machine").
--- Read this to know what step, send, raise and lower answer. Masks are seen through `has` alone.
 -- Believed: everything here. Proved against it: crates delivery, stepping, labelling and monitor.
 use Prim.Native.Nat.{ℕ, suc, _+_, _-_, _^_}
-use mathlib.Core.Bool.{Bool, true, false, not, cond, _&&_, _||_}
-use mathlib.Core.List.{List, [], _∷_, _++_, map}
+use mathlib.Core.{Bool.{Bool, true, false, not, cond, _&&_, _||_}, List.{List, [], _∷_, _++_, map}}
 use mathlib.Core.Option.{Option, none, some}
-use lib.Dec.{eqb, leb, ltb}
-use lib.ListN.{length, getD}
+use lib.{Dec.{eqb, leb, ltb}, ListN.{length, getD}}
 use Rattle.lists.specs.Numbers.{every, all, tabulate}
 use Rattle.mask.specs.Mask.{has, plus, without}
-use Rattle.plan.specs.declared.Form.{Form}
-use Rattle.plan.specs.declared.Form.the-variants.{End, Go, Either, Both}
-use Rattle.plan.specs.declared.Template.{Template}
-use Rattle.plan.specs.declared.Plan.{Plan}
+use Rattle.plan.specs.declared.{Form.{Form, the-variants.{End, Go, Either, Both}}, Template.{Template}, Plan.{Plan}}
 use Rattle.plan.specs.Plan.{at, successors, creates}
-use Rattle.rules.specs.Rules.{offends12, offends13, offends16}
-use Rattle.machine.specs.declared.Answer.{Answer}
-use Rattle.machine.specs.declared.Answer.the-variants.{Done, Delivered, Held, Refused}
+use Rattle.rules.specs.Judge.{offends12, offends13, offends16}
+use Rattle.machine.specs.declared.Answer.{Answer, the-variants.{Done, Delivered, Held, Refused}}
 
 -- "A process has a serial, a template, a label (a mask) and, for each identifier, a tag."
 pub record Process : Type 0 where
@@ -52,13 +45,6 @@ pub record Outcome : Type 0 where
   pub answer : Answer
   pub machine : Machine
 
--- The paper's number of a refusal, and 0 for any other answer.
-unfoldable pub numberOf : Answer → ℕ
-numberOf Done = 0
-numberOf Delivered = 0
-numberOf Held = 0
-numberOf (Refused n) = n
-
 -- Refusals are tried in order: the first test that holds gives its number.
 unfoldable pub refuseIf : Bool → ℕ → Answer → Answer
 refuseIf true number later = Refused number
@@ -70,8 +56,6 @@ ifDone Done new old = new
 ifDone Delivered new old = old
 ifDone Held new old = old
 ifDone (Refused n) new old = old
-
--- ---- 20: a bad state
 
 -- "A plan's successor not below N", "a mask [..] of the plan beyond M".
 unfoldable pub templateFits : ℕ → ℕ → Template → Bool
@@ -85,14 +69,11 @@ planFits plan =
     (ltb 0 (plan .count) && (leb (plan .count) 64 && leb (plan .identifiers) 32))
     && every (plan .count) (λ X. templateFits (plan .count) (plan .identifiers) (at plan X))
 
--- "A template [..] not below N", "serials [..] not below the next, a tag not below the next, a mask of a label [..]
--- beyond M".
+-- "Serials [..] not below the next", "a template [..] not below N", "a mask of a label [..] beyond M", "a tag not below".
 unfoldable pub processFits : Plan → ℕ → Process → Bool
 processFits plan next p =
-    ltb (p .serial) next
-    && (ltb (p .template) (plan .count)
-    && (ltb (p .label) (2 ^ plan .identifiers)
-    && all (λ t. ltb t next) (p .tags)))
+    ltb (p .serial) next && (ltb (p .template) (plan .count)
+    && (ltb (p .label) (2 ^ plan .identifiers) && all (λ t. ltb t next) (p .tags)))
 
 -- Each number is below the one after it.
 unfoldable pub rising : List ℕ → Bool
@@ -108,8 +89,6 @@ unfoldable pub wellFormed : Limits → Machine → Bool
 wellFormed limits m =
     planFits (m .plan) && (limits .serials (m .next) && populationFits limits (m .plan) (m .next) (m .live))
 
--- ---- the live processes
-
 -- The process with that serial; "21: that serial is not live".
 unfoldable pub find : ℕ → List Process → Option Process
 find s [] = none
@@ -118,8 +97,6 @@ find s (p ∷ rest) = cond (eqb (p .serial) s) (some p) (find s rest)
 unfoldable pub remove : ℕ → List Process → List Process
 remove s [] = []
 remove s (p ∷ rest) = cond (eqb (p .serial) s) (remove s rest) (p ∷ remove s rest)
-
--- ---- step
 
 -- "22: branch is not 0, or for `either` not 0 or 1."
 unfoldable pub branchFits : Form → ℕ → Bool
@@ -143,12 +120,9 @@ mayBecome plan label Y =
 
 -- "A child has lab Y, its parent's tags, and its own serial as tag of each identifier Y creates."
 unfoldable pub child : Plan → Process → ℕ → ℕ → Process
-child plan parent serial Y = record {
-  serial = serial;
-  template = Y;
-  label = at plan Y .lab;
-  tags = tabulate (plan .identifiers) (λ i. cond (creates plan i Y) serial (tag parent i));
-}
+child plan parent serial Y =
+    let tags = tabulate (plan .identifiers) (λ i. cond (creates plan i Y) serial (tag parent i)) in
+    record { serial = serial; template = Y; label = at plan Y .lab; tags = tags }
 
 unfoldable pub spawn : Plan → Process → ℕ → List ℕ → List Process
 spawn plan parent next [] = []
@@ -165,11 +139,9 @@ stepAnswer limits m p branch templates =
 
 -- "Else the process goes"; its children come after all others.
 unfoldable pub stepped : Machine → ℕ → Process → List ℕ → Machine
-stepped m s p templates = record {
-  plan = m .plan;
-  next = m .next + length templates;
-  live = remove s (m .live) ++ spawn (m .plan) p (m .next) templates;
-}
+stepped m s p templates =
+    let live = remove s (m .live) ++ spawn (m .plan) p (m .next) templates in
+    record { plan = m .plan; next = m .next + length templates; live = live }
 
 unfoldable pub settled : Machine → Answer → Machine → Outcome
 settled old answer new = record { answer = answer; machine = ifDone answer new old }
@@ -179,8 +151,6 @@ stepBy limits m s branch none = settled m (Refused 21) m
 stepBy limits m s branch (some p) =
     let templates = children (at (m .plan) (p .template) .form) branch in
     settled m (stepAnswer limits m p branch templates) (stepped m s p templates)
-
--- ---- send
 
 -- "Delivered exactly when each identifier of the sender's label is in the receiver's and their tags for it are equal."
 unfoldable pub passes : Plan → Process → Process → Bool
@@ -193,8 +163,6 @@ sendBy m from to none q = settled m (Refused 21) m
 sendBy m from to (some p) none = settled m (Refused 21) m
 sendBy m from to (some p) (some q) =
     settled m (refuseIf (eqb from to) 26 (cond (passes (m .plan) p q) Delivered Held)) m
-
--- ---- raise and lower
 
 -- "27 if the identifier is not below M; 28 if the template is not at risk; 29 if not in pos (raise) or neg (lower)":
 -- allowed is that mask.
@@ -225,8 +193,6 @@ unfoldable pub lowerBy : Machine → ℕ → ℕ → Option Process → Outcome
 lowerBy m s i none = settled m (Refused 21) m
 lowerBy m s i (some p) =
     settled m (moveAnswer (m .plan) p i (at (m .plan) (p .template) .neg)) (moved m s (without (p .label) (2 ^ i)))
-
--- ---- the calls
 
 unfoldable pub answerTo : Limits → Machine → Call → Outcome
 answerTo limits m (step s branch) = stepBy limits m s branch (find s (m .live))

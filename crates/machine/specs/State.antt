@@ -6,12 +6,8 @@ use lib.ListN.{getD, replicate}
 use Rattle.lists.specs.Numbers.{tabulate}
 use Rattle.plan.specs.declared.Plan.{Plan}
 use Rattle.text.specs.Reading.{readPlan, noPlan}
-use Rattle.rules.specs.declared.Verdict.{Verdict}
-use Rattle.rules.specs.declared.Verdict.the-variants.{Accepted, Broken, Unread}
-use Rattle.rules.specs.Judge.{judge}
-use Rattle.machine.specs.declared.State.{State}
-use Rattle.machine.specs.declared.Answer.{Answer}
-use Rattle.machine.specs.declared.Answer.the-variants.{Done, Delivered, Held, Refused}
+use Rattle.rules.specs.{declared.Verdict.{Verdict, the-variants.{Accepted, Broken, Unread}}, Judge.{judge}}
+use Rattle.machine.specs.declared.{State.{State}, Answer.{Answer, the-variants.{Done, Delivered, Held, Refused}}}
 use Rattle.machine.specs.declared.Answered.{Answered}
 use Rattle.machine.specs.Machine.{Process, Machine, Outcome, start}
 
@@ -57,15 +53,9 @@ ifRefused (Refused n) P = P
 
 -- The state that start hands back beside a verdict that is not accepted.
 abbrev pub blankState : State
-blankState = record {
-  plan = noPlan;
-  next = 0;
-  live = 0;
-  serials = replicate 128 0;
-  templates = replicate 128 0;
-  labels = replicate 128 0;
-  tags = replicate 4096 0;
-}
+blankState =
+    let zeros : List ℕ = replicate 128 0 in
+    record { plan = noPlan; next = 0; live = 0; serials = zeros; templates = zeros; labels = zeros; tags = replicate 4096 0 }
 
 -- "Start judges both texts and gives the judge's answer if not accepted": the machine that it starts.
 unfoldable pub startOn : Verdict → Plan → Machine

@@ -6,7 +6,8 @@ use native.Mathlib.Nat.{zero-lt-suc, not-suc-le-zero, le-of-suc-le-suc, le-refl,
 use native.Mathlib.Omega.{arith}
 use lib.Arith.{lt-one}
 use lib.Count.{ones, ones-step}
-use Rattle.mask.specs.Mask.{has, within, plus, size}
+use Rattle.mask.specs.Mask.{has, plus}
+use Rattle.mask.specs.Sets.{within, size}
 use Rattle.mask.proofs.Digits.{isOne, digit-lt, four-digits, half-lt}
 use Rattle.mask.proofs.Items.{has-zero, has-suc, plus-within, plus-has}
 use Rattle.mask.proofs.Width.{within-has, within-of}

@@ -14,7 +14,8 @@ use borrow.Author.Tests.{eqb-true, eq-eqb}
 use Rattle.lists.specs.Numbers.{lowest}
 use Rattle.lists.proofs.Tests.{fails, passes-fails, same-test, imp, imp-of}
 use Rattle.lists.proofs.Every.{every-at, every-of}
-use Rattle.mask.specs.Mask.{has, within, without}
+use Rattle.mask.specs.Mask.{has, without}
+use Rattle.mask.specs.Sets.{within}
 use Rattle.mask.proofs.Digits.{isOne, isOne-same, digit-lt, two-digits, half-lt}
 use Rattle.mask.proofs.Items.{has-zero, has-suc, has-and, has-without, has-none}
 

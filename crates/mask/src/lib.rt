@@ -2,7 +2,8 @@
 ghost use mathlib.Core.Path.{_≡_};
 ghost use Prim.Native.Nat.{_<_};
 ghost use Rattle.lists.specs.Numbers.{lowest};
-ghost use Rattle.mask.specs.Mask.{has, within, without, plus, size};
+ghost use Rattle.mask.specs.Mask.{has, without, plus};
+ghost use Rattle.mask.specs.Sets.{within, size};
 
 // Whether item i is in the mask m; nothing stands at or past the width.
 pub fn contains_u32(m: u32, i: u32) -> bool

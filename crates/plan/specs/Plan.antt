@@ -1,21 +1,11 @@
--- What stands at a place of a plan and of a policy (document 01, "The two texts" and "Routes").
--- Form, Template, Plan, Assertion and Policy are the code's own types, with numbers for their fields.
+-- What stands at a place of a plan and of a policy (document 01, "The two texts"). The types are the code's own.
 -- Believed: everything here. Proved against it: crate plan.
-use Prim.Native.Nat.{ℕ, zero, suc}
-use mathlib.Core.Path.{_≡_}
-use mathlib.Core.Logic.{_⊎_}
-use mathlib.Core.Bool.{Bool, false}
-use mathlib.Core.List.{List, [], _∷_}
+use Prim.Native.Nat.{ℕ}
+use mathlib.Core.{Path.{_≡_}, Logic.{_⊎_}, Bool.{Bool, false}, List.{List, [], _∷_}}
 use lib.ListN.{getD}
 use Rattle.mask.specs.Mask.{has}
-use Rattle.plan.specs.declared.Form.{Form}
-use Rattle.plan.specs.declared.Form.the-variants.{End, Go, Either, Both}
-use Rattle.plan.specs.declared.Template.{Template}
-use Rattle.plan.specs.declared.Plan.{Plan}
-use Rattle.plan.specs.declared.Kind.the-variants.{Secrecy}
-use Rattle.plan.specs.declared.Assertion.{Assertion}
-use Rattle.plan.specs.declared.Policy.{Policy}
-use Rattle.plan.specs.declared.Successors.{Successors}
+use Rattle.plan.specs.declared.{Form.{Form, the-variants.{End, Go, Either, Both}}, Template.{Template}}
+use Rattle.plan.specs.declared.{Plan.{Plan}, Kind.the-variants.{Secrecy}, Assertion.{Assertion}, Policy.{Policy}}
 
 -- What stands at a place that no line of a text filled.
 abbrev pub blank : Template
@@ -52,12 +42,3 @@ Successor plan X Y = Among Y (successors (at plan X .form))
 -- Rule 11 leaves at most one such template.
 unfoldable pub creates : Plan → ℕ → ℕ → Bool
 creates plan t X = has t (at plan X .creates)
-
--- The list that the code's answer stands for.
-abbrev pub listFor : ℕ → ℕ → ℕ → List ℕ
-listFor zero y z = []
-listFor (suc zero) y z = y ∷ []
-listFor (suc (suc n)) y z = y ∷ z ∷ []
-
-abbrev pub listed : Successors → List ℕ
-listed s = listFor (s .count) (s .first) (s .second)

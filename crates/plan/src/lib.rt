@@ -1,6 +1,7 @@
 // A plan and a policy as they are after reading, and what stands at a place of them.
 ghost use mathlib.Core.Path.{_≡_};
-ghost use Rattle.plan.specs.Plan.{at, listed, successors, assertionAt};
+ghost use Rattle.plan.specs.Plan.{at, successors, assertionAt};
+ghost use Rattle.plan.specs.Listed.{listed};
 
 // Document 01, `form=`: the numbers are the successors Y and Z.
 pub enum Form {

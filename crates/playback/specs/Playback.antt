@@ -1,21 +1,13 @@
--- What a list of calls leaves: the machine, and the answers in a lent row of numbers; and what replay hands back, with
--- the box promise.
+-- What a list of calls leaves, the answers in a lent row of numbers; and what replay hands back, with the box promise.
 -- Believed: everything here. Proved against it: crate playback.
 use Prim.Native.Nat.{ℕ, _/_, min, _≤_, _<_}
-use mathlib.Core.Path.{_≡_}
-use mathlib.Core.Logic.{_≢_}
-use mathlib.Core.List.{List}
+use mathlib.Core.{Path.{_≡_}, Logic.{_≢_}, List.{List}}
 use lib.ListN.{length, getD}
 use Rattle.text.specs.Reading.{readPlan, readPolicy}
-use Rattle.rules.specs.declared.Verdict.{Verdict}
-use Rattle.rules.specs.declared.Verdict.the-variants.{Accepted, Broken, Unread}
-use Rattle.rules.specs.Judge.{judge}
-use Rattle.machine.specs.declared.Answer.the-variants.{Done}
-use Rattle.machine.specs.declared.State.{State}
-use Rattle.machine.specs.Machine.{Machine, boxLimits, start}
-use Rattle.machine.specs.State.{machineOf, blankState}
-use Rattle.promise.specs.Promise.{Promised}
-use Rattle.promise.specs.Replay.{machineAfter, answers, callsIn, codeOf}
+use Rattle.rules.specs.{declared.Verdict.{Verdict, the-variants.{Accepted, Broken, Unread}}, Judge.{judge}}
+use Rattle.machine.specs.declared.{Answer.the-variants.{Done}, State.{State}}
+use Rattle.machine.specs.{Machine.{Machine, boxLimits, start}, State.{machineOf, blankState}}
+use Rattle.promise.specs.{Promise.{Promised}, Replay.{machineAfter, answers, callsIn, codeOf}}
 
 -- The first n calls of the words, begun at the machine m, left the machine m′ and the row `after` where `before` stood:
 -- an answer for each call, and past them what stood there.

@@ -16,7 +16,8 @@ use Rattle.lists.proofs.Tests.{lt-or-le, and-left, and-right}
 use Rattle.lists.proofs.Every.{every-acc, every-ext, every-and, every-rows}
 use Rattle.lists.proofs.Tabulate.{length-tabulate, all-tabulate}
 use Rattle.plan.specs.declared.Plan.{Plan}
-use Rattle.plan.specs.Plan.{listFor, at}
+use Rattle.plan.specs.Plan.{at}
+use Rattle.plan.specs.Listed.{listFor}
 use Rattle.machine.specs.Machine.{boxLimits, templateFits, planFits, processFits, rising, populationFits, wellFormed}
 use Rattle.machine.specs.State.{Cells, placed, processesOf, machineFrom}
 use Rattle.machine.proofs.Places.{rising-places}

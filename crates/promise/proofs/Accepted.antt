@@ -21,7 +21,8 @@ use Rattle.plan.specs.declared.Assertion.{Assertion}
 use Rattle.plan.specs.declared.Policy.{Policy}
 use Rattle.plan.specs.Plan.{at, successors, Among, Successor}
 use Rattle.plan.specs.Range.{InRange}
-use Rattle.rules.specs.Rules.{offends12, offends13, offends16, Kept, EveryRule, Serves}
+use Rattle.rules.specs.Rules.{Kept, EveryRule, Serves}
+use Rattle.rules.specs.Judge.{offends12, offends13, offends16}
 use Rattle.machine.specs.Machine.{mayBecome, children}
 
 -- ---- rules 12, 13 and 16

@@ -15,7 +15,7 @@ use Rattle.lists.proofs.Tabulate.{getD-tabulate}
 use Rattle.mask.specs.Mask.{has}
 use Rattle.plan.specs.declared.Plan.{Plan}
 use Rattle.plan.specs.Plan.{at, creates}
-use Rattle.rules.specs.Rules.{wearable}
+use Rattle.rules.specs.Judge.{wearable}
 use Rattle.machine.specs.Machine.{tag, Limits, Call, find, root}
 use Rattle.promise.specs.History.{Member, lineage, nobody, newborn, World, opening, worldAfter}
 use Rattle.promise.proofs.Family.{Fits, HasRoute, AreApart, NotAbove, IsFound, AllFits, Family}

@@ -13,7 +13,7 @@ use Rattle.plan.specs.declared.Plan.{Plan}
 use Rattle.plan.specs.declared.Assertion.{Assertion}
 use Rattle.plan.specs.Plan.{at, creates}
 use Rattle.plan.specs.Range.{InRange}
-use Rattle.route.specs.Tags.{SplitTag}
+use Rattle.route.specs.Route.{SplitTag}
 use Rattle.rules.specs.Rules.{Rules18-19}
 use Rattle.machine.specs.declared.Answer.the-variants.{Delivered}
 use Rattle.machine.specs.Machine.{Process, Machine, Limits, Call, send, refuseIf, settled, wellFormed, find, passes, sendBy, answerTo, run}

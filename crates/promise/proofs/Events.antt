@@ -14,7 +14,7 @@ use Rattle.lists.proofs.Tests.{or-right, or-none, and-of}
 use Rattle.mask.specs.Mask.{has}
 use Rattle.plan.specs.declared.Plan.{Plan}
 use Rattle.plan.specs.Plan.{at}
-use Rattle.rules.specs.Rules.{wearable}
+use Rattle.rules.specs.Judge.{wearable}
 use Rattle.machine.specs.Machine.{Process, tag, find, remove, children, spawn, relabelled, relabel}
 use Rattle.promise.specs.History.{Member, History, lineage, touched, retire, births, learnt, hear, mark, changes}
 use Rattle.promise.proofs.Accepted.{AllPass}

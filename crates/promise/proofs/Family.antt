@@ -16,7 +16,7 @@ use Rattle.lists.proofs.Tests.{or-left}
 use Rattle.mask.specs.Mask.{has}
 use Rattle.plan.specs.declared.Plan.{Plan}
 use Rattle.plan.specs.Plan.{at, Successor, creates}
-use Rattle.rules.specs.Rules.{wearable}
+use Rattle.rules.specs.Judge.{wearable}
 use Rattle.machine.specs.Machine.{Process, tag, child}
 use Rattle.promise.specs.History.{Node, node, Member, History, lineage, newborn, touched}
 use Rattle.promise.proofs.Lineage.{maker, On, Older, Descent, older-later, on-older}

@@ -13,7 +13,8 @@ use Rattle.plan.specs.declared.Plan.{Plan}
 use Rattle.plan.specs.declared.Assertion.{Assertion}
 use Rattle.plan.specs.Plan.{at, creates}
 use Rattle.plan.specs.Range.{InRange}
-use Rattle.rules.specs.Rules.{Serves, wearable}
+use Rattle.rules.specs.Rules.{Serves}
+use Rattle.rules.specs.Judge.{wearable}
 use Rattle.machine.specs.Machine.{Process, tag, child, relabelled}
 use Rattle.promise.specs.History.{Node, Member, lineage}
 use Rattle.promise.proofs.Accepted.{Passes, stays, unmade, lasts}

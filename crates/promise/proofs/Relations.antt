@@ -8,8 +8,7 @@ use mathlib.Core.List.{List, _∷_}
 use mathlib.Core.Option.{Option, none, some}
 use Rattle.plan.specs.declared.Plan.{Plan}
 use Rattle.plan.specs.Plan.{Successor, creates}
-use Rattle.route.specs.Route.{Holds, is, ReachedLacking, Forked}
-use Rattle.route.specs.Tags.{SharedTag, SplitTag}
+use Rattle.route.specs.Route.{Holds, is, ReachedLacking, Forked, SharedTag, SplitTag}
 use Rattle.promise.specs.History.{Node, nearest}
 use Rattle.promise.proofs.Lineage.{maker, Lacking, Holding, Descent, Routed, lacking?, maker-skip, nearest-skip, nearest-maker, nearest-none, nearest-some, descent-route, young-route}
 use Rattle.promise.proofs.Separation.{Parting, Over}

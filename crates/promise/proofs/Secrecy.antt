@@ -11,8 +11,9 @@ use Rattle.plan.specs.declared.Plan.{Plan}
 use Rattle.plan.specs.declared.Assertion.{Assertion}
 use Rattle.plan.specs.Plan.{creates}
 use Rattle.plan.specs.Range.{InRange}
-use Rattle.route.specs.Tags.{SharedTag}
-use Rattle.rules.specs.Rules.{Serves, wearable}
+use Rattle.route.specs.Route.{SharedTag}
+use Rattle.rules.specs.Rules.{Serves}
+use Rattle.rules.specs.Judge.{wearable}
 use Rattle.machine.specs.Machine.{Limits, Call}
 use Rattle.promise.specs.History.{node, History, lineage, Kin, worldAfter}
 use Rattle.promise.specs.Promise.{Secret}

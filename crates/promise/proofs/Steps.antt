@@ -2,7 +2,7 @@
 -- those rules 12, 13 and 16 hold on every edge. So refusal 25, which asks the same of the label, is not given.
 use Prim.Native.Nat.{ℕ}
 use native.Mathlib.Omega.{arith}
-use mathlib.Core.Path.{_≡_, refl, subst}
+use mathlib.Core.Path.{_≡_, refl, sym, subst}
 use mathlib.Core.List.{List}
 use mathlib.Core.Option.{Option, none, some}
 use mathlib.Core.Bool.{Bool, true, false, cond, not, false≢true}
@@ -12,14 +12,26 @@ use Rattle.plan.specs.declared.Policy.{Policy}
 use Rattle.plan.specs.Plan.{at, Successor}
 use Rattle.plan.specs.Range.{InRange}
 use Rattle.rules.specs.Rules.{EveryRule}
-use Rattle.machine.specs.declared.Answer.the-variants.{Done, Refused}
-use Rattle.machine.specs.Machine.{Process, Machine, Limits, Call, step, numberOf, refuseIf, settled, wellFormed, find, children, mayBecome, stepAnswer, stepBy, answerTo, run}
+use Rattle.machine.specs.declared.Answer.{Answer}
+use Rattle.machine.specs.declared.Answer.the-variants.{Done, Delivered, Held, Refused}
+use Rattle.machine.specs.Machine.{Process, Machine, Limits, Call, step, refuseIf, settled, wellFormed, find, children, mayBecome, stepAnswer, stepBy, answerTo, run}
 use Rattle.promise.specs.History.{History, worldAfter}
 use Rattle.promise.specs.Promise.{Unhindered}
 use Rattle.promise.proofs.Accepted.{Passes, AllPass, passes-alike, passes-all, children-are, edges-pass}
 use Rattle.promise.proofs.Family.{Family}
 use Rattle.promise.proofs.Live.{population}
 use Rattle.promise.proofs.Always.{family-always}
+
+-- The number of a refusal, and 0 for any other answer.
+unfoldable numberOf : Answer → ℕ
+numberOf Done = 0
+numberOf Delivered = 0
+numberOf Held = 0
+numberOf (Refused n) = n
+
+is-25 : (a : Answer) → a ≡ Refused 25 → numberOf a ≡ 25
+unfolding numberOf
+is-25 a e = subst (λ (b : Answer). numberOf b ≡ 25) (sym e) refl
 
 -- A chain whose last test does not hold does not come to 25.
 never-25 : (a b c d : Bool) → d ≡ true → numberOf (refuseIf a 22 (refuseIf b 23 (refuseIf c 24 (refuseIf (not d) 25 Done)))) ≡ 25 → ⊥
@@ -75,4 +87,4 @@ module _ (plan : Plan) (range : InRange plan) (policy : Policy) (rules : EveryRu
       let r = family-always limits plan declass calls in
       not-25 limits (w .machine .next) (w .machine .live) (w .history) (r .1) s branch unmoved
       (subst (λ (plan′ : Plan). numberOf (run limits (record { plan = plan′; next = w .machine .next; live = w .machine .live })
-      (step s branch) .answer) ≡ 25) (r .0) z)
+      (step s branch) .answer) ≡ 25) (r .0) (is-25 _ z))

@@ -2,18 +2,14 @@
 -- that was ever made. Nothing here is read from what the program keeps.
 -- Believed: everything here. Proved with it: crate promise.
 use Prim.Native.Nat.{ℕ, suc}
-use mathlib.Core.Path.{_≡_}
-use mathlib.Core.Bool.{Bool, true, false, not, cond, _&&_, _||_, Bool·beq}
-use mathlib.Core.List.{List, [], _∷_}
+use mathlib.Core.{Path.{_≡_}, Bool.{Bool, true, false, not, cond, _&&_, _||_, Bool·beq}, List.{List, [], _∷_}}
 use mathlib.Core.Option.{Option, none, some}
 use lib.Dec.{eqb}
 use Rattle.lists.specs.Numbers.{put}
 use Rattle.mask.specs.Mask.{has}
-use Rattle.plan.specs.declared.Plan.{Plan}
-use Rattle.plan.specs.Plan.{at}
+use Rattle.plan.specs.{declared.Plan.{Plan}, Plan.{at}}
 use Rattle.route.specs.Route.{is}
-use Rattle.machine.specs.declared.Answer.{Answer}
-use Rattle.machine.specs.declared.Answer.the-variants.{Done, Delivered, Held, Refused}
+use Rattle.machine.specs.declared.Answer.{Answer, the-variants.{Done, Delivered, Held, Refused}}
 use Rattle.machine.specs.Machine.{Process, Machine, Limits, Call, step, send, raise, lower, find, children, run, start}
 
 -- A process on a lineage: its serial and the template it executes.
@@ -118,10 +114,8 @@ pub record World : Type 0 where
 unfoldable pub after : Limits → ℕ → World → Call → World
 after limits declass w call =
     let o = run limits (w .machine) call in
-    record {
-      machine = o .machine;
-      history = cond (happened (o .answer)) (event declass (w .machine) call (w .history)) (w .history);
-    }
+    let history = cond (happened (o .answer)) (event declass (w .machine) call (w .history)) (w .history) in
+    record { machine = o .machine; history = history }
 
 unfoldable pub afterAll : Limits → ℕ → World → List Call → World
 afterAll limits declass w [] = w

@@ -1,21 +1,13 @@
--- The box promise (demand 3; document 01, "Kin and flow"): one statement over every list of calls from a started box,
--- whatever serials, branches and identifiers the calls name.
+-- The box promise (demand 3): one statement over every list of calls from a started box, whatever the calls name.
 -- Believed: everything here. Proved with it: crate promise.
 use Prim.Native.Nat.{ℕ, _<_}
-use mathlib.Core.Path.{_≡_}
-use mathlib.Core.Logic.{_≢_}
-use mathlib.Core.Bool.{true, false}
-use mathlib.Core.List.{List}
-use Rattle.plan.specs.declared.Plan.{Plan}
-use Rattle.plan.specs.declared.Kind.the-variants.{Secrecy, Prot}
-use Rattle.plan.specs.declared.Assertion.{Assertion}
-use Rattle.plan.specs.declared.Policy.{Policy}
+use mathlib.Core.{Path.{_≡_}, Logic.{_≢_}, Bool.{true, false}, List.{List}}
+use Rattle.plan.specs.declared.{Plan.{Plan}, Kind.the-variants.{Secrecy, Prot}, Assertion.{Assertion}, Policy.{Policy}}
 use Rattle.plan.specs.Plan.{assertionAt}
 use Rattle.text.specs.Reading.{readPlan, readPolicy}
-use Rattle.rules.specs.declared.Verdict.the-variants.{Accepted}
-use Rattle.rules.specs.Judge.{judge}
-use Rattle.machine.specs.declared.Answer.the-variants.{Delivered}
-use Rattle.machine.specs.Machine.{Limits, boxLimits, Call, step, send, run, numberOf}
+use Rattle.rules.specs.{declared.Verdict.the-variants.{Accepted}, Judge.{judge}}
+use Rattle.machine.specs.declared.Answer.the-variants.{Delivered, Refused}
+use Rattle.machine.specs.Machine.{Limits, boxLimits, Call, step, send, run}
 use Rattle.promise.specs.History.{World, Kin, worldAfter}
 
 -- "No Sink process knows a different Source process that is not its kin under Anc."
@@ -35,7 +27,7 @@ Delivers limits a w =
 -- No step of a process that has not moved its own label is refused over labels: "refused over labels means refusal 25".
 abbrev pub Unhindered : Limits → World → Type 0
 Unhindered limits w =
-    (s branch : ℕ) → w .history s .moved ≡ false → numberOf (run limits (w .machine) (step s branch) .answer) ≡ 25 → ⊥
+    (s branch : ℕ) → w .history s .moved ≡ false → run limits (w .machine) (step s branch) .answer ≢ Refused 25
 
 -- What is promised after a list of calls.
 pub record Promised (limits : Limits) (plan : Plan) (policy : Policy) (calls : List Call) : Type 0 where

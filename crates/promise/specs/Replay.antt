@@ -4,8 +4,7 @@ use Prim.Native.Nat.{ℕ, zero, suc, _+_, _*_}
 use mathlib.Core.List.{List, [], _∷_}
 use lib.ListN.{getD}
 use Rattle.lists.specs.Numbers.{tabulate}
-use Rattle.machine.specs.declared.Answer.{Answer}
-use Rattle.machine.specs.declared.Answer.the-variants.{Done, Delivered, Held, Refused}
+use Rattle.machine.specs.declared.Answer.{Answer, the-variants.{Done, Delivered, Held, Refused}}
 use Rattle.machine.specs.Machine.{Machine, Limits, Call, step, send, raise, lower, run}
 
 -- "A refused call hands on the state it got."

@@ -11,7 +11,7 @@ use Rattle.plan.specs.declared.Plan.{Plan}
 use Rattle.plan.specs.Plan.{at, successors, creates}
 use Rattle.plan.specs.Range.{InRange}
 use Rattle.route.specs.declared.Targets.{Targets}
-use Rattle.route.specs.Tags.{SharedTag, SplitTag}
+use Rattle.route.specs.Route.{SharedTag, SplitTag}
 use Rattle.route.specs.Search.{among, collect, only, reach, targets, forkCrosses, leads, anyIn, sharesTag, splitsTag}
 use Rattle.route.proofs.Exact.{shares-exactly, splits-exactly}
 

@@ -9,7 +9,8 @@ use borrow.Author.Tests.{not-true, not-false}
 use Rattle.mask.specs.Mask.{plus}
 use Rattle.plan.specs.declared.Plan.{Plan}
 use Rattle.plan.specs.declared.Successors.{Successors}
-use Rattle.plan.specs.Plan.{at, listed, listFor, successors}
+use Rattle.plan.specs.Plan.{at, successors}
+use Rattle.plan.specs.Listed.{listed, listFor}
 use Rattle.route.specs.Search.{among, isOpen, enterAll, enter}
 use Rattle.route.proofs.Searches.{left, open-low, enter-shut, enter-open, fewer, no-more}
 

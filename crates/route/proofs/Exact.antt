@@ -1,4 +1,4 @@
--- Both tests of Search.antt are true exactly when their relations of Tags.antt hold, for every plan in range: each is
+-- Both tests of Search.antt are true exactly when their relations of Route.antt hold, for every plan in range: each is
 -- the crossing of Crossings.antt, with C barred by way of A, and with A barred by way of C.
 use Prim.Native.Nat.{ℕ, _<_}
 use mathlib.Core.Path.{_≡_, refl, sym, ap, subst, _∙_}
@@ -13,8 +13,7 @@ use Rattle.mask.proofs.Items.{has-none}
 use Rattle.plan.specs.declared.Plan.{Plan}
 use Rattle.plan.specs.Plan.{at, successors, creates}
 use Rattle.plan.specs.Range.{InRange}
-use Rattle.route.specs.Route.{is, Reached, ReachedLacking, ReachedHolding}
-use Rattle.route.specs.Tags.{SharedTag, SplitTag}
+use Rattle.route.specs.Route.{is, Reached, ReachedLacking, ReachedHolding, SharedTag, SplitTag}
 use Rattle.route.specs.Search.{among, collect, only, reach, targets, forkCrosses, leads, sharesTag, splitsTag}
 use Rattle.route.proofs.Routes.{range-low, lacks-all, by-way, at-way, ends-low}
 use Rattle.route.proofs.Searches.{reach-exactly, reach-bar}

@@ -9,7 +9,8 @@ use native.Mathlib.Omega.{arith}
 use lib.Dec.{ltb}
 use borrow.Author.Tests.{ltb-true, lt-ltb, not-true}
 use Rattle.lists.proofs.Tests.{both, both-left, both-right, both-of, passes-fails, bool?}
-use Rattle.mask.specs.Mask.{has, plus, size}
+use Rattle.mask.specs.Mask.{has, plus}
+use Rattle.mask.specs.Sets.{size}
 use Rattle.mask.proofs.Items.{has-none, plus-within, plus-has, plus-cases}
 use Rattle.mask.proofs.Width.{within-of}
 use Rattle.mask.proofs.Size.{size-le, size-within, size-plus}

@@ -22,7 +22,8 @@ use Rattle.plan.specs.declared.Form.the-variants.{End, Go, Either, Both}
 use Rattle.plan.specs.declared.Plan.{Plan}
 use Rattle.plan.specs.declared.Template.{Template}
 use Rattle.plan.specs.declared.Successors.{Successors}
-use Rattle.plan.specs.Plan.{at, listed, successors, creates}
+use Rattle.plan.specs.Plan.{at, successors, creates}
+use Rattle.plan.specs.Listed.{listed}
 use Rattle.plan.specs.Range.{InRange}
 use Rattle.route.specs.Route.{Reaches}
 use Rattle.route.specs.declared.Target.{Target}

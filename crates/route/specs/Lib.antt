@@ -1,3 +1,2 @@
 pub mod Route
-pub mod Tags
 pub mod Search

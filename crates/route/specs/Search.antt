@@ -1,4 +1,4 @@
--- Both tag relations of Tags.antt as tests that compute, by the searches that the code makes.
+-- Both tag relations of Route.antt as tests that compute, by the searches that the code makes.
 -- Not to be believed: the laws of proofs/Exact.antt say that each test is true exactly when its relation holds.
 use Prim.Native.Nat.{ℕ, zero, suc}
 use mathlib.Core.Bool.{Bool, true, false, not}

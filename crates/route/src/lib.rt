@@ -9,10 +9,10 @@ ghost use mathlib.Core.Logic.{_↔_};
 ghost use Prim.Native.Nat.{ℕ, _<_};
 ghost use Rattle.lists.specs.Numbers.{any};
 ghost use Rattle.mask.specs.Mask.{has};
-ghost use Rattle.plan.specs.Plan.{at, listed, successors, creates};
+ghost use Rattle.plan.specs.Plan.{at, successors, creates};
+ghost use Rattle.plan.specs.Listed.{listed};
 ghost use Rattle.plan.specs.Range.{InRange};
-ghost use Rattle.route.specs.Route.{Reaches};
-ghost use Rattle.route.specs.Tags.{SharedTag, SplitTag};
+ghost use Rattle.route.specs.Route.{Reaches, SharedTag, SplitTag};
 ghost use Rattle.route.specs.Search.{among, including, collect, only, meet, isOpen, enter, reach, widened, extended, targets, crosses, branchesCross, forkCrosses, leads, anyIn, sharesTag, splitsTag};
 
 // A template to be reached, and the mask of the ways that lead to it.

@@ -15,11 +15,11 @@ use Rattle.plan.specs.declared.Assertion.{Assertion}
 use Rattle.plan.specs.declared.Policy.{Policy}
 use Rattle.plan.specs.Plan.{at, assertionAt}
 use Rattle.plan.specs.Range.{InRange}
-use Rattle.route.specs.Tags.{SharedTag, SplitTag}
+use Rattle.route.specs.Route.{SharedTag, SplitTag}
 use Rattle.route.specs.Search.{sharesTag, splitsTag}
 use Rattle.route.proofs.Exact.{shares-exactly, splits-exactly}
-use Rattle.rules.specs.Rules.{wearable, Serves, Rule17, Rules18-19, Asked}
-use Rattle.rules.specs.Judge.{Breach, Verdict, Accepted, Broken, serves, checkProt, checkAssertion, checkAssertions}
+use Rattle.rules.specs.Rules.{Serves, Rule17, Rules18-19, Asked}
+use Rattle.rules.specs.Judge.{Breach, Verdict, Accepted, Broken, serves, checkProt, checkAssertion, checkAssertions, wearable}
 use Rattle.rules.specs.Broken.{breach, EarlierIdentifiers, AssertionBroken, broken17, broken18, broken19}
 use Rattle.rules.proofs.Walk.{Decided, broken-accepted, broken-same, below-each, below-all, below-stop, below-decided, below-broken}
 

@@ -15,8 +15,8 @@ use Rattle.lists.proofs.Every.{any-at, any-of}
 use Rattle.lists.proofs.Lowest.{lowest-holds, lowest-below, lowest-any, lowest-is}
 use Rattle.plan.specs.declared.Plan.{Plan}
 use Rattle.plan.specs.Plan.{at, successors, Successor, creates}
-use Rattle.rules.specs.Rules.{Rule11, offends12, offends13, offends14, offends15, offends16, Kept, EdgeRules}
-use Rattle.rules.specs.Judge.{Breach, Verdict, Accepted, Broken, firstIn, lowestOffender, creator, nextCreator, check11, checkEdge, checkEdges}
+use Rattle.rules.specs.Rules.{Rule11, Kept, EdgeRules}
+use Rattle.rules.specs.Judge.{Breach, Verdict, Accepted, Broken, firstIn, lowestOffender, creator, nextCreator, check11, checkEdge, checkEdges, offends12, offends13, offends14, offends15, offends16}
 use Rattle.rules.specs.Broken.{breach, CreatedTwice, Lowest, EdgeBroken, broken12, broken13, broken14, broken15, broken16, EarlierEdges}
 use Rattle.rules.proofs.Walk.{Decided, test-accepted, test-broken, test-decided, or-accepted, or-both, or-broken, or-decided, or-first, or-later, below-each, below-all, below-stop, below-decided, below-broken, in-broken, in-each, in-all, in-stop, in-decided}
 

@@ -12,11 +12,12 @@ use Rattle.plan.specs.declared.Kind.the-variants.{Secrecy, Prot}
 use Rattle.plan.specs.declared.Assertion.{Assertion}
 use Rattle.plan.specs.declared.Policy.{Policy}
 use Rattle.plan.specs.Plan.{at, successors, Among, Successor, creates, assertionAt}
-use Rattle.route.specs.Tags.{SplitTag}
+use Rattle.route.specs.Route.{SplitTag}
 use Rattle.rules.specs.declared.Breach.{Breach}
 use Rattle.rules.specs.declared.Verdict.{Verdict}
 use Rattle.rules.specs.declared.Verdict.the-variants.{Accepted, Broken, Unread}
-use Rattle.rules.specs.Rules.{Rule11, offends12, offends13, offends14, offends15, offends16, Kept, EdgeRules, Rule17, Rules18-19, Asked}
+use Rattle.rules.specs.Rules.{Rule11, Kept, EdgeRules, Rule17, Rules18-19, Asked}
+use Rattle.rules.specs.Judge.{offends12, offends13, offends14, offends15, offends16}
 
 abbrev pub breach : ℕ → ℕ → ℕ → ℕ → Breach
 breach rule first second identifier = record { rule = rule; first = first; second = second; identifier = identifier }

@@ -1,29 +1,17 @@
--- The verdict: the first broken rule in document 01's order, with its figures ("The judge").
--- Believed: everything here. Proved against it: crates edges, assertions and verdict; and accepted is said exactly when
--- every rule of Rules.antt holds.
-use Prim.Native.Nat.{ℕ, zero, suc}
-use Prim.Native.String.{String}
-use mathlib.Core.Bool.{Bool, not, cond, _&&_, _||_}
-use mathlib.Core.List.{List, [], _∷_}
+-- Rules 11 to 19, and the verdict: the first broken rule in document 01's order, with its figures ("The judge").
+-- Believed: everything here. Proved against it: crates edges, assertions and verdict; rules 12, 13 and 16 also crate stepping.
+use Prim.Native.{Nat.{ℕ, zero, suc}, String.{String}}
+use mathlib.Core.{Bool.{Bool, not, cond, _&&_, _||_}, List.{List, [], _∷_}}
 use lib.Dec.{ltb}
 use Rattle.lists.specs.Numbers.{every, any, lowest}
 use Rattle.mask.specs.Mask.{has}
-use Rattle.plan.specs.declared.Plan.{Plan}
-use Rattle.plan.specs.declared.Kind.{Kind}
-use Rattle.plan.specs.declared.Kind.the-variants.{Secrecy, Prot}
-use Rattle.plan.specs.declared.Assertion.{Assertion}
-use Rattle.plan.specs.declared.Policy.{Policy}
+use Rattle.plan.specs.declared.{Template.{Template}, Plan.{Plan}, Kind.{Kind, the-variants.{Secrecy, Prot}}}
+use Rattle.plan.specs.declared.{Assertion.{Assertion}, Policy.{Policy}}
 use Rattle.plan.specs.Plan.{at, successors, creates, assertionAt}
 use Rattle.route.specs.Search.{sharesTag, splitsTag}
-use Rattle.text.specs.declared.Reading.{Reading}
-use Rattle.text.specs.declared.Reading.the-variants.{Complete, Refused}
-use Rattle.text.specs.Reading.{readPlan, readPolicy}
-use Rattle.rules.specs.Rules.{offends12, offends13, offends14, offends15, offends16, wearable}
-pub use Rattle.rules.specs.declared.Text.{Text}
-pub use Rattle.rules.specs.declared.Text.the-variants.{Plan as PlanText, Policy as PolicyText}
-pub use Rattle.rules.specs.declared.Fault.{Fault}
-pub use Rattle.rules.specs.declared.Breach.{Breach}
-pub use Rattle.rules.specs.declared.Verdict.{Verdict}
+use Rattle.text.specs.{declared.Reading.{Reading, the-variants.{Complete, Refused}}, Reading.{readPlan, readPolicy}}
+pub use Rattle.rules.specs.declared.Text.{Text, the-variants.{Plan as PlanText, Policy as PolicyText}}
+pub use Rattle.rules.specs.declared.{Fault.{Fault}, Breach.{Breach}, Verdict.{Verdict}}
 pub use Rattle.rules.specs.declared.Verdict.the-variants.{Accepted, Broken, Unread}
 
 abbrev pub broken : ℕ → ℕ → ℕ → ℕ → Verdict
@@ -63,6 +51,28 @@ check11 plan =
     let t = lowest (plan .identifiers) (λ t. ltb (nextCreator plan t) (plan .count)) in
     cond (ltb t (plan .identifiers)) (broken 11 (creator plan t) (nextCreator plan t) t) Accepted
 
+-- What identifier i does against a rule on the edge from X to Y. lab is lab X; a step asks the same of a process's
+-- label in its place.
+-- 12: "lab Y within lab X plus pos Y".
+abbrev pub offends12 : ℕ → Template → ℕ → Bool
+offends12 lab Y i = has i (Y .lab) && not (has i lab || has i (Y .pos))
+
+-- 13: "lab X minus neg Y within lab Y".
+abbrev pub offends13 : ℕ → Template → ℕ → Bool
+offends13 lab Y i = (has i lab && not (has i (Y .neg))) && not (has i (Y .lab))
+
+-- 14: "pos Y within pos X plus creates Y".
+abbrev pub offends14 : Template → Template → ℕ → Bool
+offends14 X Y i = has i (Y .pos) && not (has i (X .pos) || has i (Y .creates))
+
+-- 15: "neg Y within neg X plus creates Y".
+abbrev pub offends15 : Template → Template → ℕ → Bool
+offends15 X Y i = has i (Y .neg) && not (has i (X .neg) || has i (Y .creates))
+
+-- 16: "creates Y and lab X share nothing".
+abbrev pub offends16 : ℕ → Template → ℕ → Bool
+offends16 lab Y i = has i (Y .creates) && has i lab
+
 -- "Each tested 12 to 16."
 unfoldable pub checkEdge : Plan → ℕ → ℕ → Verdict
 checkEdge plan X Y =
@@ -76,7 +86,11 @@ checkEdge plan X Y =
 unfoldable pub checkEdges : Plan → Verdict
 checkEdges plan = firstBelow (plan .count) (λ X. firstIn (successors (at plan X .form)) (checkEdge plan X))
 
--- Rule 17's identifier t, as a test.
+-- t is "in lab Sink (with pos Sink added if Sink is at risk)".
+unfoldable pub wearable : Plan → ℕ → ℕ → Bool
+wearable plan X t = has t (at plan X .lab) || (at plan X .risk && has t (at plan X .pos))
+
+-- 17: t "lies in lab Source, in no neg of a template outside Declass, and either not in lab Sink [..] or not Joined".
 unfoldable pub serves : Plan → Assertion → ℕ → Bool
 serves plan a t =
     has t (at plan (a .source) .lab)
@@ -117,33 +131,18 @@ judge planText policyText =
     afterReading PlanText (plan .answer) (afterReading PolicyText (policy .answer) (judgeRead (plan .plan) (policy .policy)))
 
 -- "It prints [..] each on its own line in that order": the paper's words and numbers of each verdict.
-pub data Value : Type 0 where
-  word : String → Value
-  figure : ℕ → Value
-
-pub record Line : Type 0 where
-  pub key : String
-  pub value : Value
-
-abbrev pub says : String → Value → Line
-says key value = record { key = key; value = value }
+pub data Line : Type 0 where
+  says : String → String → Line
+  counts : String → ℕ → Line
 
 abbrev pub textName : Text → String
 textName PlanText = "plan"
 textName PolicyText = "policy"
 
 unfoldable pub report : Verdict → List Line
-report Accepted = says "verdict" (word "accepted") ∷ []
+report Accepted = says "verdict" "accepted" ∷ []
 report (Broken b) =
-    says "verdict" (word "broken")
-    ∷ says "rule" (figure (b .rule))
-    ∷ says "first" (figure (b .first))
-    ∷ says "second" (figure (b .second))
-    ∷ says "identifier" (figure (b .identifier))
-    ∷ []
+    says "verdict" "broken" ∷ counts "rule" (b .rule) ∷ counts "first" (b .first) ∷ counts "second" (b .second)
+    ∷ counts "identifier" (b .identifier) ∷ []
 report (Unread f) =
-    says "verdict" (word "unread")
-    ∷ says "text" (word (textName (f .text)))
-    ∷ says "number" (figure (f .number))
-    ∷ says "line" (figure (f .line))
-    ∷ []
+    says "verdict" "unread" ∷ says "text" (textName (f .text)) ∷ counts "number" (f .number) ∷ counts "line" (f .line) ∷ []

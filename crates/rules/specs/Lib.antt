@@ -1,4 +1,4 @@
-pub mod Rules
 pub mod Judge
+pub mod Rules
 pub mod Broken
 pub mod Show

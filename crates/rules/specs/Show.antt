@@ -1,13 +1,11 @@
 -- Where the shown part lies (document 01, "Showing").
 -- Believed: everything here. Proved against it: crate showing.
 use Prim.Native.Nat.{ℕ, zero, suc, _+_, _-_, _*_}
-use mathlib.Core.Bool.{cond}
-use mathlib.Core.List.{List}
-use lib.Dec.{leb, ltb}
-use lib.ListN.{length, take, drop}
+use mathlib.Core.{Bool.{cond}, List.{List}}
+use lib.{Dec.{leb, ltb}, ListN.{length, take, drop}}
 use Rattle.scan.specs.Bytes.{bytes, before}
-use Rattle.rules.specs.Judge.{Text, PlanText, PolicyText, Verdict, Accepted, Broken, Unread, judge}
 use Rattle.rules.specs.declared.Part.{Part}
+use Rattle.rules.specs.Judge.{Text, PlanText, PolicyText, Verdict, Accepted, Broken, Unread, judge}
 
 -- How many lines stand before the first template, in each template, before the first assertion, in each assertion.
 abbrev pub planHeader : ℕ

@@ -1,10 +1,7 @@
 -- Bytes of a text: a text is the list of its bytes.
 -- Believed: everything here. Proved against it: crate scan.
-use Prim.Native.Nat.{ℕ, zero, suc}
-use Prim.Native.Char.{code}
-use Prim.Native.String.{String, [], _∷_}
-use mathlib.Core.Bool.{Bool, true, false, cond, _&&_, _||_}
-use mathlib.Core.List.{List, [] as []ᴸ, _∷_ as _∷ᴸ_}
+use Prim.Native.{Nat.{ℕ, zero, suc}, Char.{code}, String.{String, [], _∷_}}
+use mathlib.Core.{Bool.{Bool, true, false, cond, _&&_, _||_}, List.{List, [] as []ᴸ, _∷_ as _∷ᴸ_}}
 use lib.Dec.{eqb}
 
 -- The bytes of a text that is written out, so that a key reads as in document 01: `bytes "name="`.

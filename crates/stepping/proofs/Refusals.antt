@@ -15,7 +15,7 @@ use Rattle.mask.specs.Mask.{has, without}
 use Rattle.mask.proofs.Items.{has-or, has-and, has-without}
 use Rattle.plan.specs.declared.Form.{Form}
 use Rattle.plan.specs.declared.Template.{Template}
-use Rattle.rules.specs.Rules.{offends12, offends13, offends16}
+use Rattle.rules.specs.Judge.{offends12, offends13, offends16}
 use Rattle.machine.specs.declared.Answer.the-variants.{Done, Refused}
 use Rattle.machine.specs.Machine.{refuseIf, branchFits}
 use Rattle.population.specs.Lent.{answerFor}

@@ -15,7 +15,8 @@ use Rattle.plan.specs.declared.Form.{Form}
 use Rattle.plan.specs.declared.Plan.{Plan}
 use Rattle.plan.specs.declared.Template.{Template}
 use Rattle.plan.specs.declared.Successors.{Successors}
-use Rattle.plan.specs.Plan.{at, creates, listFor, listed}
+use Rattle.plan.specs.Plan.{at, creates}
+use Rattle.plan.specs.Listed.{listFor, listed}
 use Rattle.machine.specs.declared.Answer.{Answer}
 use Rattle.machine.specs.declared.Answer.the-variants.{Done, Refused}
 use Rattle.machine.specs.Machine.{Process, step, boxLimits, wellFormed, tag, remove, refuseIf, branchFits, children, mayBecome, child, spawn, stepAnswer, stepped, stepBy, answerTo, run}

@@ -13,7 +13,7 @@ use Rattle.mask.specs.Mask.{without}
 use Rattle.plan.specs.declared.Form.{Form}
 use Rattle.plan.specs.declared.Template.{Template}
 use Rattle.plan.specs.declared.Successors.{Successors}
-use Rattle.rules.specs.Rules.{offends12, offends13, offends16}
+use Rattle.rules.specs.Judge.{offends12, offends13, offends16}
 use Rattle.machine.specs.declared.Answer.{Answer}
 use Rattle.machine.specs.declared.Answer.the-variants.{Done, Refused}
 use Rattle.machine.specs.Machine.{Process, refuseIf, branchFits}

@@ -11,7 +11,7 @@ ghost use mathlib.Core.List.{[], _∷_, _++_};
 ghost use Prim.Native.Nat.{_<_, _≤_, _+_};
 ghost use lib.ListN.{getD, length, set};
 ghost use Rattle.lists.specs.Numbers.{tabulate};
-ghost use Rattle.plan.specs.Plan.{listed};
+ghost use Rattle.plan.specs.Listed.{listed};
 ghost use Rattle.machine.specs.Machine.{boxLimits, wellFormed, branchFits, children, stepBy, step, run};
 ghost use Rattle.machine.specs.State.{placed, processesOf, machineFrom};
 ghost use Rattle.population.specs.Arrays.{cells};

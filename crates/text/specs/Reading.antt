@@ -1,25 +1,15 @@
 -- Reading the plan and the policy, line by line (document 01, "The two texts" and "Reading").
--- A reader goes from a cursor to a value and the next cursor. Once a line is refused the cursor stays there: later
--- lines are not looked at, and what they give is blank and of no account.
+-- A reader goes from a cursor to a value and the next cursor. Once a line is refused no later line is looked at.
 -- Believed: everything here. Proved against it: crates text and reader.
-use Prim.Native.Nat.{ℕ, zero, suc, _+_, _-_}
-use Prim.Native.String.{String}
-use mathlib.Core.Bool.{false, cond, _&&_}
-use mathlib.Core.List.{List, [], _∷_, _++_}
-use lib.Dec.{leb, ltb}
-use lib.ListN.{length, take, drop, replicate}
-use Rattle.plan.specs.declared.Form.the-variants.{End}
-use Rattle.plan.specs.declared.Template.{Template}
-use Rattle.plan.specs.declared.Plan.{Plan}
-use Rattle.plan.specs.declared.Kind.the-variants.{Secrecy}
-use Rattle.plan.specs.declared.Assertion.{Assertion}
-use Rattle.plan.specs.declared.Policy.{Policy}
+use Prim.Native.{Nat.{ℕ, zero, suc, _+_, _-_}, String.{String}}
+use mathlib.Core.{Bool.{false, cond, _&&_}, List.{List, [], _∷_, _++_}}
+use lib.{Dec.{leb, ltb}, ListN.{length, take, drop, replicate}}
+use Rattle.plan.specs.declared.{Form.the-variants.{End}, Template.{Template}, Plan.{Plan}, Kind.the-variants.{Secrecy}}
+use Rattle.plan.specs.declared.{Assertion.{Assertion}, Policy.{Policy}}
 use Rattle.plan.specs.Plan.{blank, blankAssertion}
 use Rattle.scan.specs.Bytes.{bytes, before, startsWith}
 use Rattle.field.specs.Fields.{Field, is, bad, andThen, number, templateNumber, mask, name, form, risk, kind, declass}
-use Rattle.text.specs.declared.Reading.{Reading}
-use Rattle.text.specs.declared.Reading.the-variants.{Complete, Refused}
-use Rattle.text.specs.declared.PlanRead.{PlanRead}
+use Rattle.text.specs.declared.{Reading.{Reading, the-variants.{Complete, Refused}}, PlanRead.{PlanRead}}
 use Rattle.text.specs.declared.PolicyRead.{PolicyRead}
 
 -- "Each text at most 16,384 bytes."
@@ -49,8 +39,7 @@ give v cursor = record { value = v; next = cursor }
 unfoldable pub field : List ℕ → List ℕ → Field (List ℕ)
 field key text =
     cond (ltb (before 10 text) (length text) && startsWith key (take (before 10 text) text))
-    (is (drop (length key) (take (before 10 text) text)))
-    (bad 2)
+    (is (drop (length key) (take (before 10 text) text))) (bad 2)
 
 -- The next cursor stands after byte 10, on the next line; or reading stops on this one.
 unfoldable pub settle : {A : Type 0} → A → List ℕ → ℕ → Field A → Step A

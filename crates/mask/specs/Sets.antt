@@ -1,0 +1,15 @@
+-- Masks as sets: what contracts of crate mask name besides Mask.antt.
+-- Not to be believed: nothing that document 01 says is said with these.
+use Prim.Native.Nat.{ℕ, zero, suc, _+_, _/_, _%_}
+use mathlib.Core.Bool.{Bool, not, _||_}
+use Rattle.lists.specs.Numbers.{every}
+use Rattle.mask.specs.Mask.{has}
+
+-- Each item of a below the width is in b: document 01's "within".
+unfoldable pub within : ℕ → ℕ → ℕ → Bool
+within width a b = every width (λ i. not (has i a) || has i b)
+
+-- How many items below the width are in m.
+unfoldable pub size : ℕ → ℕ → ℕ
+size zero m = 0
+size (suc width) m = m % 2 + size width (m / 2)
