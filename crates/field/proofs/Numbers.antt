@@ -1,7 +1,7 @@
 -- Each way through a reader of numbers, over plain variables: `search` finds the premises in what the code has shown.
-use Prim.Native.Nat.{ℕ, _+_, _-_, _*_, _/_, _^_, _≤_, _<_}
-use mathlib.Core.Path.{_≡_, refl, sym, ap, _∙_}
-use mathlib.Core.List.{List}
+use Prim.Native.Nat.{ℕ, suc, _+_, _-_, _*_, _/_, _^_, _≤_, _<_}
+use mathlib.Core.Path.{_≡_, refl, sym, ap, _∙_, subst}
+use mathlib.Core.List.{List, [], _∷_}
 use mathlib.Core.Bool.{Bool, true, false}
 use native.Mathlib.Numerals.{add-one}
 use native.Mathlib.Nat.{pow-suc, suc-mul, mul-le-mul, pow-le-pow-right, mod-lt, div-eq-of-lt}
@@ -10,7 +10,7 @@ use native.Mathlib.Omega.{arith}
 use lib.ListN.{length, getD, drop, drop-of-length-le}
 use lib.Dec.{ltb, eqb}
 use lib.Pow.{pow-pos, pow-mono, split}
-use borrow.Author.Tests.{eqb-true, eqb-false, eq-eqb, ne-eqb, le-leb, lt-leb, lt-ltb, le-ltb}
+use borrow.Author.Tests.{ltb-true, eqb-true, eqb-false, eq-eqb, ne-eqb, le-leb, lt-leb, lt-ltb, le-ltb}
 use Rattle.lists.proofs.Tests.{lt-or-le}
 use Rattle.scan.proofs.Ways.{told}
 use Rattle.scan.proofs.Steps.{at-place}
@@ -62,6 +62,27 @@ module _ (base acc : ℕ) (s : List ℕ) (i : ℕ) (so-far : digits base 0 s ≡
 -- A number of i digits, and one more.
 pub one-digit-more : (acc base d i : ℕ) → base ≤ 16 → d < base → acc < 16 ^ i → acc * base + d < 16 ^ (i + 1)
 one-digit-more acc base d i hb hd h = rw (add-one, pow-suc) (omega (arith, rw suc-mul at (mul-le-mul h hb)))
+
+-- The digits after i digits, and how large what they write together can be.
+pub digits-below : (base acc i : ℕ) (s : List ℕ) (m : ℕ) → base ≤ 16 → acc < 16 ^ i → digits base acc s ≡ is m → m < 16 ^ (i + length s)
+unfolding digits
+digits-below base acc i [] m small h e =
+    let same : acc ≡ m = cc in
+    let none : i ≡ i + 0 = omega arith in
+    subst (λ (k : ℕ). m < 16 ^ k) none (subst (λ (k : ℕ). k < 16 ^ i) same h)
+digits-below base acc i (b ∷ s) m small h e =
+    go (λ next. digits-below base (acc * base + digit b) (i + 1) s m small next) (ltb (digit b) base) refl
+  where
+    go : (acc * base + digit b < 16 ^ (i + 1) → digits base (acc * base + digit b) s ≡ is m → m < 16 ^ (i + 1 + length s))
+        → (t : Bool) → ltb (digit b) base ≡ t → m < 16 ^ (i + suc (length s))
+    go rest true q =
+        let more : acc * base + digit b < 16 ^ (i + 1) = one-digit-more acc base (digit b) i small (ltb-true (digit b) base q) h in
+        let sum : i + 1 + length s ≡ i + suc (length s) = omega arith in
+        subst (λ (k : ℕ). m < 16 ^ k) sum (rest more (rw (q, digits) at e))
+    go rest false q =
+        let no : bad 2 ≡ is m = rw (q, digits) at e in
+        let z : _≡_ {A = ℕ} 0 1 = cc in
+        absurd (omega arith)
 
 -- Sixteen digits fit.
 pub digits-fit : (n i : ℕ) → n < 16 ^ i → i ≤ 16 → n < 2 ^ 64

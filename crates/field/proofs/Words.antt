@@ -6,8 +6,7 @@ use mathlib.Core.Bool.{Bool, true, false, not, cond, _&&_, _||_}
 use native.Mathlib.Omega.{arith}
 use lib.ListN.{length, getD, take, drop, drop-of-length-le}
 use lib.Dec.{leb, ltb, eqb}
-use lib.Pow.{pow-mono}
-use borrow.Author.Tests.{leb-true, ltb-true, le-leb, lt-leb, lt-ltb, le-ltb, not-true, not-false}
+use borrow.Author.Tests.{leb-true, ltb-true, eqb-true, le-leb, lt-leb, lt-ltb, le-ltb, not-true, not-false}
 use Rattle.lists.specs.Numbers.{all}
 use Rattle.mask.specs.Mask.{has}
 use Rattle.plan.specs.declared.Form.{Form}
@@ -18,7 +17,7 @@ use Rattle.scan.specs.Bytes.{before}
 use Rattle.scan.proofs.Ways.{told}
 use Rattle.scan.proofs.Parts.{rest-of, first-of}
 use Rattle.scan.proofs.Steps.{at-place}
-use Rattle.field.proofs.Numbers.{decimal-none}
+use Rattle.field.proofs.Numbers.{decimal-none, digits-below}
 use Rattle.field.specs.Fields.{Field, is, bad, andThen, digit, digits, decimal, number, templateNumber, mask, nameByte, pair, misplaced, declass}
 use Rattle.field.specs.Answers.{numberOf, pairOf, isName}
 use Rattle.field.specs.declared.NumberField.{NumberField}
@@ -147,25 +146,35 @@ module _ (refusal low limit : ℕ) (s : List ℕ) (r : NumberField) (e : numberO
   pub number-fits : limit < 256 → v < 256
   number-fits l = omega (arith, number-below)
 
--- A mask that was read has no item at its limit or past it.
-pub mask-range : (width items : ℕ) (s : List ℕ) (m : ℕ) → mask width items s ≡ is m → m < 2 ^ items
+-- A mask that was read: so many digits, and no item at its limit or past it.
+mask-read : (width items : ℕ) (s : List ℕ) (m : ℕ) → mask width items s ≡ is m → (length s ≡ width) × (digits 16 0 s ≡ is m) × (m < 2 ^ items)
 unfolding mask andThen
-mask-range width items s m e = outer (eqb (length s) width) e
+mask-read width items s m e = outer (eqb (length s) width) refl e
   where
-    inner : (x : Field ℕ) → andThen x (λ w. cond (ltb w (2 ^ items)) (is w) (bad 4)) ≡ is m → m < 2 ^ items
+    inner : (x : Field ℕ) → andThen x (λ w. cond (ltb w (2 ^ items)) (is w) (bad 4)) ≡ is m → (x ≡ is m) × (m < 2 ^ items)
     inner (is w) h = test (ltb w (2 ^ items)) refl h
       where
-        test : (b : Bool) → ltb w (2 ^ items) ≡ b → cond b (is w) (bad 4) ≡ is m → m < 2 ^ items
-        test true p q = let i : w ≡ m = cc in subst (λ (k : ℕ). k < 2 ^ items) i (ltb-true w (2 ^ items) p)
+        test : (b : Bool) → ltb w (2 ^ items) ≡ b → cond b (is w) (bad 4) ≡ is m → (is w ≡ is m) × (m < 2 ^ items)
+        test true p q = let i : w ≡ m = cc in (q, subst (λ (k : ℕ). k < 2 ^ items) i (ltb-true w (2 ^ items) p))
         test false p q = let z : _≡_ {A = ℕ} 0 1 = cc in absurd (omega arith)
     inner (bad n) h = let z : _≡_ {A = ℕ} 0 1 = cc in absurd (omega arith)
 
-    outer : (b : Bool) → cond b (andThen (digits 16 0 s) (λ w. cond (ltb w (2 ^ items)) (is w) (bad 4))) (bad 2) ≡ is m → m < 2 ^ items
-    outer true h = inner (digits 16 0 s) h
-    outer false h = let z : _≡_ {A = ℕ} 0 1 = cc in absurd (omega arith)
+    outer : (b : Bool) → eqb (length s) width ≡ b
+        → cond b (andThen (digits 16 0 s) (λ w. cond (ltb w (2 ^ items)) (is w) (bad 4))) (bad 2) ≡ is m
+        → (length s ≡ width) × (digits 16 0 s ≡ is m) × (m < 2 ^ items)
+    outer true p h = let x = inner (digits 16 0 s) h in (eqb-true (length s) width p, x .0, x .1)
+    outer false p h = let z : _≡_ {A = ℕ} 0 1 = cc in absurd (omega arith)
 
-pub mask-fits : (width items : ℕ) (s : List ℕ) (r : NumberField) → numberOf r ≡ mask width items s → (m : ℕ) → r ≡ Is m → items ≤ 32 → m < 2 ^ 32
-mask-fits width items s r e m h l = omega (arith, mask-range width items s m (sym e ∙ ap numberOf h), pow-mono {i = items} {j = 32} l)
+pub mask-range : (width items : ℕ) (s : List ℕ) (m : ℕ) → mask width items s ≡ is m → m < 2 ^ items
+mask-range width items s m e = mask-read width items s m e .2
+
+-- Eight digits fit a word of 32 bits, whatever the limit.
+pub mask-fits : (items : ℕ) (s : List ℕ) (r : NumberField) → numberOf r ≡ mask 8 items s → (m : ℕ) → r ≡ Is m → m < 2 ^ 32
+mask-fits items s r e m h =
+    let read = mask-read 8 items s m (sym e ∙ ap numberOf h) in
+    let below : m < 16 ^ (0 + length s) = digits-below 16 0 0 s m (omega arith) (omega arith) (read .1) in
+    let width : length s ≡ 8 = read .0 in
+    omega (arith, subst (λ (k : ℕ). m < 16 ^ (0 + k)) width below)
 
 -- What a template number, or a pair, comes to as a form.
 module _ (N : ℕ) (s : List ℕ) (r : NumberField) (e : numberOf r ≡ number 3 0 N s) where

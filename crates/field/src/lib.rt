@@ -118,8 +118,8 @@ fn is_below(m: u64, items: u8) -> bool
     m >> items == 0
 }
 
-// A mask of so many digits, over so many items.
-pub fn read_mask(s: &[u8], width: usize, items: u8) -> NumberField
+// A mask of so many digits, at most sixteen, over so many items.
+fn read_mask(s: &[u8], width: usize, items: u8) -> NumberField
     requires { ⌜ width ≤ 16 ⌝ }
     ensures { λ r. ⌜ numberOf r ≡ maskOf width items (now (s .entry)) ⌝ }
 {
@@ -135,6 +135,13 @@ pub fn read_mask(s: &[u8], width: usize, items: u8) -> NumberField
             NumberField::Bad(BEYOND)
         }
     }
+}
+
+// A mask over so many identifiers, of eight digits.
+pub fn read_identifiers(s: &[u8], items: u8) -> NumberField
+    ensures { λ r. ⌜ numberOf r ≡ maskOf 8 items (now (s .entry)) ⌝ }
+{
+    read_mask(s, 8, items)
 }
 
 // a-z, 0-9.

@@ -9,7 +9,7 @@ use lib.ListN.{length, set, replicate, length-set}
 use Rattle.plan.specs.declared.Assertion.{Assertion}
 use Rattle.plan.specs.Plan.{blankAssertion}
 use Rattle.text.specs.Reading.{Cursor, Step, assertion, assertions}
-use Rattle.text.specs.Cursors.{cursorOf, Standing, stepOf}
+use Rattle.text.specs.Cursors.{cursorOf, stepOf}
 use Rattle.text.specs.declared.Position.{Position}
 use Rattle.reader.proofs.Rows.{longer, seam}
 use Rattle.reader.specs.Rows.{listed}
@@ -18,7 +18,6 @@ use Rattle.reader.specs.Rows.{listed}
 pub record Turn (text : List ℕ) (N K : ℕ) (c : Cursor) (row : List Assertion) (at : Position) (i : ℕ) : Type 0 where
   pub most : i ≤ K
   pub left : listed N 0 (replicate 32 blankAssertion) K c ≡ listed N i row (K - i) (cursorOf text at)
-  pub standing : Standing text at
   pub row-length : length row ≡ 32
 
 -- One assertion listed.
@@ -32,11 +31,10 @@ list-one N K i row a c d k e =
     ∙ sym (ap (λ (s : Step Assertion). listed N (i + 1) (set row i (s .value)) (K - (i + 1)) (s .next)) e)
 
 module _ (text : List ℕ) (N K : ℕ) where
-  pub turn-first : (at : Position) → Standing text at → Turn text N K (cursorOf text at) (replicate 32 blankAssertion) at 0
-  turn-first at st = record {
+  pub turn-first : (at : Position) → Turn text N K (cursorOf text at) (replicate 32 blankAssertion) at 0
+  turn-first at = record {
     most = omega arith;
     left = let e : K ≡ K - 0 = omega arith in ap (λ (more : ℕ). listed N 0 (replicate 32 blankAssertion) more (cursorOf text at)) e;
-    standing = st;
     row-length = refl;
   }
 
@@ -47,12 +45,11 @@ module _ (text : List ℕ) (N K : ℕ) where
         let e : K - i ≡ 0 = omega arith in
         sym (turn .left ∙ ap (λ (more : ℕ). listed N i row more (cursorOf text at)) e)
 
-    pub turn-next : (a : Assertion) (p : Position) → stepOf text a p ≡ assertion N (cursorOf text at) → Standing text p → i < K
+    pub turn-next : (a : Assertion) (p : Position) → stepOf text a p ≡ assertion N (cursorOf text at) → i < K
         → Turn text N K c (set row i a) p (i + 1)
-    turn-next a p e st k = record {
+    turn-next a p e k = record {
       most = omega arith;
       left = turn .left ∙ list-one N K i row a (cursorOf text at) (cursorOf text p) k e;
-      standing = st;
       row-length = length-set row i a ∙ turn .row-length;
     }
 

@@ -1,15 +1,20 @@
 -- The end of a text: nothing may follow the last line, and a refused text hands back the blank plan or policy.
 use Prim.Native.Nat.{ℕ, _≤_, _<_}
-use mathlib.Core.Path.{_≡_}
+use mathlib.Core.Path.{_≡_, refl}
+use mathlib.Core.Bool.{Bool, true, false, _&&_, true≢false}
+use mathlib.Core.Logic.{_⊎_, inl, inr}
 use mathlib.Core.List.{List}
 use lib.ListN.{length, drop-of-length-le}
-use borrow.Author.Tests.{le-leb, lt-leb}
+use lib.Dec.{leb}
+use borrow.Author.Tests.{le-leb, lt-leb, leb-true}
+use Rattle.lists.proofs.Tests.{and-left, and-right, lt-or-le}
 use Rattle.plan.specs.declared.Plan.{Plan}
 use Rattle.plan.specs.declared.Policy.{Policy}
 use Rattle.scan.proofs.Ways.{told}
 use Rattle.scan.proofs.Steps.{at-place}
 use Rattle.text.specs.Reading.{longest, on, plan, policy, closed, checked, ifComplete, noPlan, noPolicy, readPlan, readPolicy}
-use Rattle.text.specs.Cursors.{cursorOf, stepOf}
+use Rattle.text.specs.Cursors.{stands, cursorOf, stepOf}
+use Rattle.text.proofs.Lines.{lost-cursor, on-cursor}
 use Rattle.text.specs.declared.Refusal.{Refusal}
 use Rattle.text.specs.declared.Reading.{Reading}
 use Rattle.text.specs.declared.Reading.the-variants.{Complete, Refused}
@@ -21,14 +26,22 @@ module _ (text : List ℕ) (p : Position) where
   unfolding closed cursorOf
   closed-stopped n k e = rw e
 
-  module _ (at k : ℕ) (e : p ≡ On at k) where
-    pub closed-extra : at < length text → Refused (record { number = 2; line = k }) ≡ closed (cursorOf text p)
-    unfolding closed cursorOf
-    closed-extra h = rw (e, at-place text at h)
+  module _ (at k : ℕ) (e : p ≡ On at k) (t : Bool) (d : t ≡ stands text at k) where
+    pub closed-complete : (t && leb (length text) at) ≡ true → Complete ≡ closed (cursorOf text p)
+    unfolding closed
+    closed-complete h =
+        let past = leb-true (length text) at (and-right t (leb (length text) at) h) in
+        rw (on-cursor text p at k e t d (and-left t (leb (length text) at) h), drop-of-length-le text past)
 
-    pub closed-complete : length text ≤ at → Complete ≡ closed (cursorOf text p)
-    unfolding closed cursorOf
-    closed-complete h = rw (e, drop-of-length-le text h)
+    -- Extra bytes, or a position that is none of the text.
+    pub closed-extra : (t && leb (length text) at) ≡ false → Refused (record { number = 2; line = k }) ≡ closed (cursorOf text p)
+    unfolding closed
+    closed-extra h = go t refl (lt-or-le at (length text))
+      where
+        go : (b : Bool) → t ≡ b → (at < length text) ⊎ (length text ≤ at) → Refused (record { number = 2; line = k }) ≡ closed (cursorOf text p)
+        go false q o = rw (lost-cursor text p at k e t d q)
+        go true q (inl l) = rw (on-cursor text p at k e t d q, at-place text at l)
+        go true q (inr l) = absurd (true≢false (rw (q, le-leb (length text) at l) at h))
 
 -- ---- the plan
 

@@ -9,9 +9,9 @@ use lib.ListN.{length, set, replicate, length-set}
 use Rattle.plan.specs.declared.Template.{Template}
 use Rattle.plan.specs.Plan.{blank}
 use Rattle.text.specs.Reading.{Cursor, Step, Entry, entry, entries}
-use Rattle.text.specs.Cursors.{part, cursorOf, Standing, stepOf, namesOf, Remembered}
+use Rattle.text.specs.Cursors.{part, cursorOf, stepOf, namesOf}
 use Rattle.text.specs.declared.Position.{Position}
-use Rattle.text.proofs.Names.{names-more, remembered-more, remembered-none}
+use Rattle.text.proofs.Names.{names-more}
 use Rattle.reader.proofs.Rows.{longer, seam}
 use Rattle.reader.specs.Rows.{filled}
 
@@ -19,8 +19,6 @@ use Rattle.reader.specs.Rows.{filled}
 pub record Turn (text : List ℕ) (N M : ℕ) (c : Cursor) (templates : List Template) (starts ends : List ℕ) (at : Position) (i : ℕ) : Type 0 where
   pub most : i ≤ N
   pub left : filled N M [] 0 (replicate 64 blank) N c ≡ filled N M (namesOf text starts ends i) i templates (N - i) (cursorOf text at)
-  pub standing : Standing text at
-  pub remembered : Remembered text starts ends i
   pub templates-length : length templates ≡ 64
   pub starts-length : length starts ≡ 64
   pub ends-length : length ends ≡ 64
@@ -36,13 +34,11 @@ fill-one N M stood i row n t c d k e =
     ∙ sym (ap (λ (s : Step Entry). filled N M (s .value .name ∷ stood) (i + 1) (set row i (s .value .template)) (N - (i + 1)) (s .next)) e)
 
 module _ (text : List ℕ) (N M : ℕ) where
-  pub turn-first : (at : Position) → Standing text at → Turn text N M (cursorOf text at) (replicate 64 blank) (replicate 64 0) (replicate 64 0) at 0
+  pub turn-first : (at : Position) → Turn text N M (cursorOf text at) (replicate 64 blank) (replicate 64 0) (replicate 64 0) at 0
   unfolding namesOf
-  turn-first at st = record {
+  turn-first at = record {
     most = omega arith;
     left = let e : N ≡ N - 0 = omega arith in ap (λ (more : ℕ). filled N M [] 0 (replicate 64 blank) more (cursorOf text at)) e;
-    standing = st;
-    remembered = remembered-none text (replicate 64 0) (replicate 64 0);
     templates-length = refl;
     starts-length = refl;
     ends-length = refl;
@@ -57,13 +53,11 @@ module _ (text : List ℕ) (N M : ℕ) where
 
     pub turn-next : (a b : ℕ) (t : Template) (p : Position)
         → stepOf {A = Entry} text (record { name = part a b text; template = t }) p ≡ entry N M (namesOf text starts ends i) (cursorOf text at)
-        → Standing text p → a ≤ b → b ≤ length text → i < N → N ≤ 64
+        → i < N → N ≤ 64
         → Turn text N M c (set templates i t) (set starts i a) (set ends i b) p (i + 1)
-    turn-next a b t p e st l g k small = record {
+    turn-next a b t p e k small = record {
       most = omega arith;
       left = turn .left ∙ filling;
-      standing = st;
-      remembered = remembered-more text starts ends i a b (omega (arith, turn .starts-length)) (omega (arith, turn .ends-length)) (turn .remembered) l g;
       templates-length = length-set templates i t ∙ turn .templates-length;
       starts-length = length-set starts i a ∙ turn .starts-length;
       ends-length = length-set ends i b ∙ turn .ends-length;

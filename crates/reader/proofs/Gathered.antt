@@ -5,7 +5,7 @@ use mathlib.Core.Bool.{Bool, false}
 use mathlib.Core.List.{List, []}
 use Rattle.plan.specs.declared.Form.{Form}
 use Rattle.plan.specs.declared.Form.the-variants.{End}
-use lib.ListN.{replicate}
+use lib.ListN.{length, replicate}
 use Rattle.plan.specs.declared.Template.{Template}
 use Rattle.plan.specs.declared.Plan.{Plan}
 use Rattle.plan.specs.declared.Kind.{Kind}
@@ -15,11 +15,11 @@ use Rattle.plan.specs.declared.Policy.{Policy}
 use Rattle.plan.specs.Plan.{blank, blankAssertion}
 use Rattle.scan.specs.Bytes.{bytes}
 use Rattle.field.specs.Fields.{number, templateNumber, mask, name, form, risk, kind, declass}
-use Rattle.text.specs.Reading.{Cursor, on, Step, Reader, _>>=_, give, line, Entry, entry, plan, assertion, policy}
+use Rattle.text.specs.Reading.{longest, Cursor, on, Step, Reader, _>>=_, give, line, Entry, entry, plan, assertion, policy}
 use Rattle.text.specs.Cursors.{cursorOf, stepOf, keyed}
 use Rattle.text.specs.declared.Position.{Position}
 use Rattle.text.specs.declared.Position.the-variants.{On}
-use Rattle.text.proofs.Lines.{keyed-line}
+use Rattle.text.proofs.Lines.{keyed-line, first-cursor}
 use Rattle.reader.specs.Rows.{Masks, masks, filled, listed}
 use Rattle.reader.proofs.Entries.{filled-all}
 use Rattle.reader.proofs.Assertions.{listed-all}
@@ -81,12 +81,12 @@ module _ (text : List ℕ) (p₁ p₂ p₃ : Position) (N M : ℕ) (ts : List Te
   pub plan-gathered : stepOf text N p₁ ≡ keyed 0 (bytes "templates=") (number 3 1 65) (cursorOf text (On 0 1))
       → stepOf text M p₂ ≡ keyed 0 (bytes "identifiers=") (number 3 0 33) (cursorOf text p₁)
       → stepOf text ts p₃ ≡ filled N M [] 0 (replicate 64 blank) N (cursorOf text p₂)
-      → N ≤ 64
+      → N ≤ 64 → length text ≤ longest
       → stepOf {A = Plan} text (record { count = N; identifiers = M; templates = ts }) p₃ ≡ plan (on text 1)
-  unfolding plan cursorOf
-  plan-gathered a₁ a₂ a₃ h =
+  unfolding plan
+  plan-gathered a₁ a₂ a₃ h l =
       rw
-      (← (a₁ ∙ keyed-line 0 "templates=" (number 3 1 65) (on text 1)), ← (a₂ ∙ keyed-line 0 "identifiers=" (number 3 0 33) (cursorOf text p₁)))
+      (← (a₁ ∙ ap (keyed 0 (bytes "templates=") (number 3 1 65)) (first-cursor text l) ∙ keyed-line 0 "templates=" (number 3 1 65) (on text 1)), ← (a₂ ∙ keyed-line 0 "identifiers=" (number 3 0 33) (cursorOf text p₁)))
       (ap (λ (s : Step (List Template)). record { value = record { count = N; identifiers = M; templates = s .value }; next = s .next })
       (a₃ ∙ filled-all N M (cursorOf text p₂) h))
 
@@ -110,10 +110,10 @@ module _ (N : ℕ) (text : List ℕ) (p₀ p₁ p₂ p₃ p₄ p₅ : Position) 
 module _ (N : ℕ) (text : List ℕ) (p₁ p₂ : Position) (K : ℕ) (row : List Assertion) where
   pub policy-gathered : stepOf text K p₁ ≡ keyed 0 (bytes "assertions=") (number 3 0 33) (cursorOf text (On 0 1))
       → stepOf text row p₂ ≡ listed N 0 (replicate 32 blankAssertion) K (cursorOf text p₁)
-      → K ≤ 32
+      → K ≤ 32 → length text ≤ longest
       → stepOf {A = Policy} text (record { count = K; assertions = row }) p₂ ≡ policy N (on text 1)
-  unfolding policy cursorOf
-  policy-gathered a₁ a₂ h =
-      rw (← (a₁ ∙ keyed-line 0 "assertions=" (number 3 0 33) (on text 1)))
+  unfolding policy
+  policy-gathered a₁ a₂ h l =
+      rw (← (a₁ ∙ ap (keyed 0 (bytes "assertions=") (number 3 0 33)) (first-cursor text l) ∙ keyed-line 0 "assertions=" (number 3 0 33) (on text 1)))
       (ap (λ (s : Step (List Assertion)). record { value = record { count = K; assertions = s .value }; next = s .next })
       (a₂ ∙ listed-all N K (cursorOf text p₁) h))

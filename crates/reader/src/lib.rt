@@ -16,13 +16,10 @@ ghost use mathlib.Core.List.{[]};
 ghost use lib.ListN.{length, replicate};
 ghost use Rattle.plan.specs.Plan.{blank, blankAssertion};
 ghost use Rattle.text.specs.Reading.{on, longest, entry, plan as planText, assertion, policy as policyText, closed, readPlan, readPolicy, noPlan, noPolicy};
-ghost use Rattle.text.specs.Cursors.{cursorOf, Standing, stepOf, namesOf, Remembered};
+ghost use Rattle.text.specs.Cursors.{cursorOf, stepOf, namesOf};
 ghost use Rattle.reader.specs.Rows.{masks, masksOf, entryOf, filled, listed};
 
-// Each text has at most 16,384 bytes (document 01, The two texts).
-const LONGEST: usize = 16384;
-
-// The number of the refusal of a longer one.
+// The number of the refusal of a text that is too long.
 const TOO_LONG: u8 = 1;
 
 pub struct MasksRead {
@@ -35,9 +32,7 @@ pub struct MasksRead {
 
 // The four mask lines of a template of a plan with m identifiers.
 fn read_masks(text: &[u8], from: Position, m: u8) -> MasksRead
-    requires { ⌜ Standing (now text) from × (m ≤ 32) ⌝ }
     ensures { λ r. ⌜ stepOf (now (text .entry)) (masksOf r) (r .next) ≡ masks m (cursorOf (now (text .entry)) from) ⌝ }
-    ensures room { λ r. ⌜ Standing (now (text .entry)) (r .next) ⌝ }
 {
     let lab = text::mask_line(text, from, b"lab=", m);
     let after_lab = lab.next;
@@ -73,12 +68,9 @@ fn read_entry(
     m: u8,
     starts: &[usize],
     ends: &[usize],
-    count: usize,
+    count: u8,
 ) -> EntryRead
-    requires { ⌜ Standing (now text) from × Remembered (now text) (now starts) (now ends) count × (m ≤ 32) ⌝ }
     ensures { λ r. ⌜ stepOf (now (text .entry)) (entryOf (now (text .entry)) r) (r .next) ≡ entry n m (namesOf (now (text .entry)) (now (starts .entry)) (now (ends .entry)) count) (cursorOf (now (text .entry)) from) ⌝ }
-    ensures room { λ r. ⌜ Standing (now (text .entry)) (r .next) ⌝ }
-    ensures place { λ r. ⌜ (r .start ≤ r .end) × (r .end ≤ length (now (text .entry))) ⌝ }
 {
     let name = text::name_line(text, from, starts, ends, count);
     let after_name = name.next;
@@ -112,9 +104,8 @@ pub struct EntriesRead {
 
 // The lines of all n templates. Where a name stands is remembered, so that a later one is compared with it.
 fn read_entries(text: &[u8], from: Position, n: u8, m: u8) -> EntriesRead
-    requires { ⌜ Standing (now text) from × (n ≤ 64) × (m ≤ 32) ⌝ }
+    requires { ⌜ n ≤ 64 ⌝ }
     ensures { λ r. ⌜ stepOf (now (text .entry)) (r .templates) (r .next) ≡ filled n m [] 0 (replicate 64 blank) n (cursorOf (now (text .entry)) from) ⌝ }
-    ensures room { λ r. ⌜ Standing (now (text .entry)) (r .next) ⌝ }
 {
     let mut templates = [Template {
         form: Form::End,
@@ -129,7 +120,7 @@ fn read_entries(text: &[u8], from: Position, n: u8, m: u8) -> EntriesRead
     let mut at = from;
     let mut i: usize = 0;
     while i < n as usize {
-        let entry = read_entry(text, at, n, m, &starts, &ends, i);
+        let entry = read_entry(text, at, n, m, &starts, &ends, i as u8);
         let template = entry.template;
         templates[i] = template;
         starts[i] = entry.start;
@@ -182,13 +173,13 @@ fn close(text: &[u8], end: Position) -> Reading
     match end {
         Position::Stopped(number, line) => Reading::Refused(Refusal { number, line }),
         Position::On(at, line) => {
-            if at < text.len() {
-                return Reading::Refused(Refusal {
-                    number: field::LAYOUT,
-                    line,
-                });
+            if text::is_standing(text, at, line) & (text.len() <= at) {
+                return Reading::Complete;
             }
-            Reading::Complete
+            Reading::Refused(Refusal {
+                number: field::LAYOUT,
+                line,
+            })
         }
     }
 }
@@ -215,7 +206,7 @@ fn no_plan() -> Plan
 pub fn read_plan(text: &[u8]) -> PlanRead
     ensures { λ r. ⌜ r ≡ readPlan (now (text .entry)) ⌝ }
 {
-    if LONGEST < text.len() {
+    if text::LONGEST < text.len() {
         let plan = no_plan();
         return PlanRead {
             answer: Reading::Refused(Refusal {
@@ -252,9 +243,7 @@ pub struct AssertionRead {
 
 // The five lines of an assertion over n templates.
 fn read_assertion(text: &[u8], from: Position, n: u8) -> AssertionRead
-    requires { ⌜ Standing (now text) from ⌝ }
     ensures { λ r. ⌜ stepOf (now (text .entry)) (r .assertion) (r .next) ≡ assertion n (cursorOf (now (text .entry)) from) ⌝ }
-    ensures room { λ r. ⌜ Standing (now (text .entry)) (r .next) ⌝ }
 {
     let kind = text::kind_line(text, from);
     let after_kind = kind.next;
@@ -284,7 +273,7 @@ pub struct AssertionsRead {
 
 // The lines of all k assertions over n templates.
 fn read_assertions(text: &[u8], from: Position, n: u8, k: u8) -> AssertionsRead
-    requires { ⌜ Standing (now text) from × (k ≤ 32) ⌝ }
+    requires { ⌜ k ≤ 32 ⌝ }
     ensures { λ r. ⌜ stepOf (now (text .entry)) (r .assertions) (r .next) ≡ listed n 0 (replicate 32 blankAssertion) k (cursorOf (now (text .entry)) from) ⌝ }
 {
     let mut assertions = [Assertion {
@@ -359,7 +348,7 @@ fn no_policy() -> Policy
 pub fn read_policy(n: u8, text: &[u8]) -> PolicyRead
     ensures { λ r. ⌜ r ≡ readPolicy n (now (text .entry)) ⌝ }
 {
-    if LONGEST < text.len() {
+    if text::LONGEST < text.len() {
         let policy = no_policy();
         return PolicyRead {
             answer: Reading::Refused(Refusal {

@@ -1,10 +1,10 @@
 -- Parts of a list as the code lends them: `&s[a..e]` is `take (e - a) (drop a s)`.
-use Prim.Native.Nat.{ℕ, zero, suc, _-_}
+use Prim.Native.Nat.{ℕ, zero, suc, _-_, _≤_}
 use mathlib.Core.Path.{_≡_, sym, ap, _∙_}
 use mathlib.Core.List.{List, [], _∷_}
 use native.Mathlib.Omega.{arith}
 use native.Mathlib.Nat.{sub-zero, zero-sub, suc-sub-suc}
-use lib.ListN.{length, take, drop, length-drop}
+use lib.ListN.{length, take, drop, length-drop, drop-of-length-le}
 use lib.Seq.{take-all, take-nil}
 
 -- A part that goes to the end.
@@ -21,3 +21,22 @@ drop-take zero e s = sym (first-of s e)
 drop-take (suc a) zero s = ap (λ (k : ℕ). take k (drop (suc a) s)) (sym (zero-sub (suc a)))
 drop-take (suc a) (suc e) [] = sym (take-nil (suc e - suc a))
 drop-take (suc a) (suc e) (x ∷ s) = drop-take a e s ∙ ap (λ (k : ℕ). take k (drop a s)) (sym (suc-sub-suc e a))
+
+-- A part as far as the text has it.
+module _ (text : List ℕ) (start end : ℕ) where
+  nothing : (k : ℕ) → k ≡ 0 → (l : List ℕ) → [] ≡ take k l
+  nothing k e l = sym (ap (λ (j : ℕ). take j l) e)
+
+  -- The empty part, as the code lends it.
+  pub part-empty : end ≤ start → take (0 - 0) (drop 0 text) ≡ take (end - start) (drop start text)
+  part-empty h = sym (nothing (0 - 0) (omega arith) (drop 0 text)) ∙ nothing (end - start) (omega arith) (drop start text)
+
+  pub part-past : length text ≤ start → take (0 - 0) (drop 0 text) ≡ take (end - start) (drop start text)
+  part-past h =
+      sym (nothing (0 - 0) (omega arith) (drop 0 text))
+      ∙ sym (ap (take (end - start)) (drop-of-length-le text h) ∙ take-nil (end - start))
+
+  pub part-rest : length text ≤ end → take (length text - start) (drop start text) ≡ take (end - start) (drop start text)
+  part-rest h =
+      take-all (length text - start) (drop start text) (simp length-drop (omega arith))
+      ∙ sym (take-all (end - start) (drop start text) (simp length-drop (omega arith)))

@@ -1,5 +1,7 @@
-// Bytes of a lent text: looking for one, comparing some.
+// Bytes of a lent text: looking for one, comparing some, lending some on.
 ghost use mathlib.Core.Path.{_≡_};
+ghost use Prim.Native.Nat.{_-_};
+ghost use lib.ListN.{take, drop};
 ghost use Rattle.scan.specs.Bytes.{before, startsWith, same};
 
 // How many bytes of s stand before the first b; all of them where there is none.
@@ -41,4 +43,21 @@ pub fn same_bytes(s: &[u8], t: &[u8]) -> bool
         return false;
     }
     starts_with(s, t)
+}
+
+// The bytes from start to end, those of them that the text has.
+pub fn part<'a>(text: &'a [u8], start: usize, end: usize) -> &'a [u8]
+    ensures { λ r. ⌜ now r ≡ take (end - start) (drop start (now (text .entry))) ⌝ }
+{
+    let n = text.len();
+    if end <= start {
+        return &text[0..0];
+    }
+    if n <= start {
+        return &text[0..0];
+    }
+    if n <= end {
+        return &text[start..n];
+    }
+    &text[start..end]
 }

@@ -2,10 +2,8 @@
 use Prim.Native.Nat.{ℕ, _+_, _-_, _*_, _≤_, _<_}
 use mathlib.Core.Path.{_≡_, sym, ap, ap₂, _∙_}
 use mathlib.Core.Bool.{Bool, cond}
-use mathlib.Core.List.{List, []}
-use native.Mathlib.Omega.{arith}
-use lib.ListN.{length, take, drop, length-drop, drop-of-length-le}
-use lib.Seq.{take-all, take-nil}
+use mathlib.Core.List.{List}
+use lib.ListN.{take, drop}
 use borrow.Author.Tests.{le-leb, lt-leb}
 use Rattle.rules.specs.declared.Text.{Text}
 use Rattle.rules.specs.declared.Text.the-variants.{Plan as PlanText, Policy as PolicyText}
@@ -67,24 +65,6 @@ module _ (plan policy : List ℕ) where
     unread-lies f r e k = k ∙ sym (ap (λ (x : Verdict). located x plan policy) e)
 
 -- ---- its bytes
-
-module _ (text : List ℕ) (start end : ℕ) where
-  nothing : (k : ℕ) → k ≡ 0 → (l : List ℕ) → [] ≡ take k l
-  nothing k e l = sym (ap (λ (j : ℕ). take j l) e)
-
-  -- The empty part, as the code lends it.
-  pub part-empty : end ≤ start → take (0 - 0) (drop 0 text) ≡ take (end - start) (drop start text)
-  part-empty h = sym (nothing (0 - 0) (omega arith) (drop 0 text)) ∙ nothing (end - start) (omega arith) (drop start text)
-
-  pub part-past : length text ≤ start → take (0 - 0) (drop 0 text) ≡ take (end - start) (drop start text)
-  part-past h =
-      sym (nothing (0 - 0) (omega arith) (drop 0 text))
-      ∙ sym (ap (take (end - start)) (drop-of-length-le text h) ∙ take-nil (end - start))
-
-  pub part-rest : length text ≤ end → take (length text - start) (drop start text) ≡ take (end - start) (drop start text)
-  part-rest h =
-      take-all (length text - start) (drop start text) (simp length-drop (omega arith))
-      ∙ sym (take-all (end - start) (drop start text) (simp length-drop (omega arith)))
 
 module _ (plan policy : List ℕ) (p q : Part) (e : p ≡ q) (r : List ℕ) where
   pub bytes-plan : p .text ≡ PlanText → r ≡ take (p .end - p .start) (drop (p .start) plan) → r ≡ within q plan policy

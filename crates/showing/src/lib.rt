@@ -4,8 +4,8 @@ use rules::Part;
 use rules::Text;
 use rules::Verdict;
 ghost use mathlib.Core.Path.{_≡_};
-ghost use Prim.Native.Nat.{_-_, _≤_};
-ghost use lib.ListN.{length, take, drop};
+ghost use Prim.Native.Nat.{_≤_};
+ghost use lib.ListN.{length};
 ghost use Rattle.rules.specs.declared.Verdict.the-variants.{Unread};
 ghost use Rattle.rules.specs.Show.{lineStart, lineEnd, faultyLine, nameOf, kindLine, located, locate, shown};
 ghost use Rattle.showing.specs.Bytes.{within};
@@ -124,23 +124,6 @@ pub fn locate_verdict(plan: &[u8], policy: &[u8], verdict: Verdict) -> Part
     }
 }
 
-// The bytes from start to end, those of them that the text has.
-fn part<'a>(text: &'a [u8], start: usize, end: usize) -> &'a [u8]
-    ensures { λ r. ⌜ now r ≡ take (end - start) (drop start (now (text .entry))) ⌝ }
-{
-    let n = text.len();
-    if end <= start {
-        return &text[0..0];
-    }
-    if n <= start {
-        return &text[0..0];
-    }
-    if n <= end {
-        return &text[start..n];
-    }
-    &text[start..end]
-}
-
 // The part that a verdict on the texts shows: the caller's own bytes, of the text that the verdict chooses.
 pub fn show_verdict<'a>(plan: &'a [u8], policy: &'a [u8], verdict: Verdict) -> &'a [u8]
     ensures { λ r. ⌜ now r ≡ within (located verdict (now (plan .entry)) (now (policy .entry))) (now (plan .entry)) (now (policy .entry)) ⌝ }
@@ -151,10 +134,10 @@ pub fn show_verdict<'a>(plan: &'a [u8], policy: &'a [u8], verdict: Verdict) -> &
     let end = place.end;
     match text {
         Text::Plan => {
-            return part(plan, start, end);
+            return scan::part(plan, start, end);
         }
         Text::Policy => {
-            return part(policy, start, end);
+            return scan::part(policy, start, end);
         }
     }
 }

@@ -2,14 +2,14 @@
 use Prim.Native.Nat.{ℕ, _+_, _-_, _^_, _≤_, _<_}
 use mathlib.Core.Path.{_≡_, refl, sym, ap₂, _∙_, subst}
 use mathlib.Core.List.{List}
-use mathlib.Core.Bool.{Bool, true, false, _&&_}
+use mathlib.Core.Bool.{Bool, true, false, not, _&&_}
 use native.Mathlib.Omega.{arith}
 use native.Mathlib.Nat.{add-assoc}
 use lib.ListN.{length, take, drop, length-take, length-drop}
 use lib.Seq.{drop-drop}
-use lib.Dec.{ltb}
+use lib.Dec.{leb, ltb}
 use Prim.Native.String.{String}
-use borrow.Author.Tests.{lt-ltb, le-ltb, ltb-true}
+use borrow.Author.Tests.{lt-ltb, le-ltb, ltb-true, lt-leb, le-leb, leb-true, not-true, not-false}
 use Rattle.lists.proofs.Tests.{and-left, and-right}
 use Rattle.scan.specs.Bytes.{bytes, before, startsWith}
 use Rattle.scan.proofs.Ways.{told}
@@ -17,7 +17,7 @@ use Rattle.scan.proofs.Parts.{rest-of, first-of, drop-take}
 use Rattle.scan.proofs.Steps.{starts-long}
 use Rattle.field.specs.Fields.{Field, is, bad, andThen}
 use Rattle.text.specs.Reading.{longest, Cursor, on, stopped, field, settle, line}
-use Rattle.text.specs.Cursors.{part, cursorOf, Standing, stepOf, spanOf, found, opened, settled, after, keyed, openedOf, Within}
+use Rattle.text.specs.Cursors.{part, stands, cursorOf, stepOf, spanOf, found, gone, opened, settled, after, keyed, openedOf, Within}
 use Rattle.text.specs.declared.Position.{Position}
 use Rattle.text.specs.declared.Position.the-variants.{On, Stopped}
 use Rattle.text.specs.declared.Span.{Span}
@@ -81,64 +81,110 @@ span-test key s a e h = go (ltb (before 10 s) (length s) && startsWith key (take
     go true q = refl
     go false q = let no : Missing ≡ At a e = rw (q, spanOf) at h in let z : _≡_ {A = ℕ} 0 1 = cc in absurd (omega arith)
 
+-- ---- positions
+
+-- As the code tests whether a position is one of the text.
+module _ (text : List ℕ) (at k : ℕ) where
+  pub stands-long : longest < length text → false ≡ stands text at k
+  unfolding stands
+  stands-long h = rw (lt-leb (length text) longest h, stands)
+
+  pub stands-past : length text ≤ longest → length text < at → false ≡ stands text at k
+  unfolding stands
+  stands-past l h = rw (le-leb (length text) longest l, lt-leb at (length text) h, stands)
+
+  pub stands-line : length text ≤ longest → at ≤ length text → leb k (at + 1) ≡ stands text at k
+  unfolding stands
+  stands-line l h = rw (le-leb (length text) longest l, le-leb at (length text) h, stands)
+
+  -- What is then known of it.
+  stands-true : stands text at k ≡ true → (at ≤ length text) × (k ≤ at + 1) × (length text ≤ longest)
+  unfolding stands
+  stands-true e =
+      let x = leb (length text) longest in
+      let y = leb at (length text) in
+      let z = leb k (at + 1) in
+      let rest = and-right x (y && z) e in
+      (leb-true at (length text) (and-left y z rest), leb-true k (at + 1) (and-right y z rest), leb-true (length text) longest (and-left x (y && z) e))
+
+  stands-here : at ≤ length text → k ≤ at + 1 → length text ≤ longest → stands text at k ≡ true
+  unfolding stands
+  stands-here h l m = rw (le-leb (length text) longest m, le-leb at (length text) h, le-leb k (at + 1) l, stands)
+
+-- The first line of a text that is not too long.
+pub first-cursor : (text : List ℕ) → length text ≤ longest → cursorOf text (On 0 1) ≡ on text 1
+unfolding cursorOf
+first-cursor text h = rw (stands-here text 0 1 (omega arith) (omega arith) h)
+
 -- ---- a line opened
 
-module _ (text : List ℕ) (p : Position) where
-  pub standing-at : (at k : ℕ) → Standing text p → p ≡ On at k → at ≤ length text
-  unfolding Standing
-  standing-at at k h e = subst (Standing text) e h .0
+pub stopped-open : (text key : List ℕ) (p : Position) (n k : ℕ) → p ≡ Stopped n k → openedOf text (Closed (Stopped n k)) ≡ opened key (cursorOf text p)
+unfolding openedOf opened cursorOf
+stopped-open text key p n k e = rw e
 
-  pub stopped-open : (key : List ℕ) (n k : ℕ) → p ≡ Stopped n k → openedOf text (Closed (Stopped n k)) ≡ opened key (cursorOf text p)
+pub closed-within : (text : List ℕ) (p : Position) → Within text (Closed p)
+unfolding Within
+closed-within text p = tt
+
+module _ (text : List ℕ) (p : Position) (at k : ℕ) (h : p ≡ On at k) (t : Bool) (d : t ≡ stands text at k) where
+  -- A position that is none of the text.
+  pub lost-cursor : t ≡ false → cursorOf text p ≡ stopped 2 k
+  unfolding cursorOf
+  lost-cursor e = rw (h, told d e)
+
+  pub lost-open : (key : List ℕ) → not t ≡ true → openedOf text (Closed (Stopped 2 k)) ≡ opened key (cursorOf text p)
   unfolding openedOf opened cursorOf
-  stopped-open key n k e = rw e
+  lost-open key e = rw (lost-cursor (not-true t e))
 
-pub stopped-within : (text : List ℕ) (n k : ℕ) → Within text (Closed (Stopped n k))
-unfolding Within Standing
-stopped-within text n k = tt
+  pub on-cursor : t ≡ true → cursorOf text p ≡ on (drop at text) k
+  unfolding cursorOf
+  on-cursor e = rw (h, told d e)
 
-module _ (text key : List ℕ) (p : Position) (at k : ℕ) (h : p ≡ On at k) (x : Span) (q : x ≡ spanOf key (take (length text - at) (drop at text))) where
-  pub missing-open : x ≡ Missing → openedOf text (Closed (Stopped 2 k)) ≡ opened key (cursorOf text p)
-  unfolding openedOf opened cursorOf spanOf
-  missing-open e = go (ltb (before 10 (drop at text)) (length (drop at text)) && startsWith key (take (before 10 (drop at text)) (drop at text))) refl
-    where
-      go : (b : Bool) → (ltb (before 10 (drop at text)) (length (drop at text)) && startsWith key (take (before 10 (drop at text)) (drop at text))) ≡ b
-          → openedOf text (Closed (Stopped 2 k)) ≡ opened key (cursorOf text p)
-      go true r =
-          let no : At (length key) (before 10 (drop at text)) ≡ Missing = sym (rw (rest-of, r, spanOf) at q) ∙ e in
-          let z : _≡_ {A = ℕ} 0 1 = cc in
-          absurd (omega arith)
-      go false r = rw (h, r, opened)
+  pub stands-at : not t ≡ false → at ≤ length text
+  stands-at e = stands-true text at k (told d (not-false t e)) .0
 
-  module _ (a e : ℕ) (g : x ≡ At a e) where
-    here : spanOf key (drop at text) ≡ At a e
-    here = sym (rw rest-of at q) ∙ g
-
-    pub at-open : openedOf text (Open (at + a) (at + e) k) ≡ opened key (cursorOf text p)
-    unfolding openedOf opened cursorOf
-    at-open = rw h (ap₂ (λ (f r : List ℕ). found f r k) bytes-of rest ∙ sym opening)
+  module _ (stood : not t ≡ false) (key : List ℕ) (x : Span) (q : x ≡ spanOf key (take (length text - at) (drop at text))) where
+    pub missing-open : x ≡ Missing → openedOf text (Closed (Stopped 2 k)) ≡ opened key (cursorOf text p)
+    unfolding openedOf opened cursorOf spanOf
+    missing-open e = rw (on-cursor (not-false t stood)) (go (ltb (before 10 (drop at text)) (length (drop at text)) && startsWith key (take (before 10 (drop at text)) (drop at text))) refl)
       where
-        here-at : (length key ≡ a) × (before 10 (drop at text) ≡ e) × (a ≤ e) × (e < length (drop at text))
-        here-at = spanned key (drop at text) a e here
+        go : (b : Bool) → (ltb (before 10 (drop at text)) (length (drop at text)) && startsWith key (take (before 10 (drop at text)) (drop at text))) ≡ b
+            → gone (stopped 2 k) ≡ opened key (on (drop at text) k)
+        go true r =
+            let no : At (length key) (before 10 (drop at text)) ≡ Missing = sym (rw (rest-of, r, spanOf) at q) ∙ e in
+            let z : _≡_ {A = ℕ} 0 1 = cc in
+            absurd (omega arith)
+        go false r = rw (r, opened)
 
-        opening : opened key (on (drop at text) k) ≡ found (drop a (take e (drop at text))) (drop (e + 1) (drop at text)) k
-        opening = rw (span-test key (drop at text) a e here, opened) (rw (here-at .0, here-at .1))
+    module _ (a e : ℕ) (g : x ≡ At a e) where
+      here : spanOf key (drop at text) ≡ At a e
+      here = sym (rw rest-of at q) ∙ g
 
-        bytes-of : part (at + a) (at + e) text ≡ drop a (take e (drop at text))
-        bytes-of =
-            let n : at + e - (at + a) ≡ e - a = omega arith in
-            rw n (rw (← drop-drop a at text) (sym (drop-take a e (drop at text))))
+      pub at-open : openedOf text (Open (at + a) (at + e) k) ≡ opened key (cursorOf text p)
+      unfolding openedOf opened
+      at-open = rw (on-cursor (not-false t stood)) (ap₂ (λ (f r : List ℕ). found f r k) bytes-of rest ∙ sym opening)
+        where
+          here-at : (length key ≡ a) × (before 10 (drop at text) ≡ e) × (a ≤ e) × (e < length (drop at text))
+          here-at = spanned key (drop at text) a e here
 
-        rest : drop (at + e + 1) text ≡ drop (e + 1) (drop at text)
-        rest = rw (drop-drop (e + 1) at text, ← add-assoc at e 1)
+          opening : opened key (on (drop at text) k) ≡ found (drop a (take e (drop at text))) (drop (e + 1) (drop at text)) k
+          opening = rw (span-test key (drop at text) a e here, opened) (rw (here-at .0, here-at .1))
 
-    module _ (st : Standing text p) where
+          bytes-of : part (at + a) (at + e) text ≡ drop a (take e (drop at text))
+          bytes-of =
+              let n : at + e - (at + a) ≡ e - a = omega arith in
+              rw n (rw (← drop-drop a at text) (sym (drop-take a e (drop at text))))
+
+          rest : drop (at + e + 1) text ≡ drop (e + 1) (drop at text)
+          rest = rw (drop-drop (e + 1) at text, ← add-assoc at e 1)
+
       pub at-within : Within text (Open (at + a) (at + e) k)
-      unfolding Within Standing
+      unfolding Within
       at-within =
           let s = spanned key (drop at text) a e here in
-          let t : Standing text (On at k) = subst (Standing text) h st in
+          let y = stands-true text at k (told d (not-false t stood)) in
           let l = simp length-drop at (s .3) in
-          (omega arith, omega arith, omega arith, t .2)
+          (omega arith, omega arith, omega arith, y .2)
 
       pub start-fits : at + a < 2 ^ 64
       unfolding Within
@@ -150,6 +196,27 @@ module _ (text key : List ℕ) (p : Position) (at k : ℕ) (h : p ≡ On at k) (
 
 -- ---- a line read
 
+module _ (text : List ℕ) (r : Line) (w : Within text r) (a e k : ℕ) (h : r ≡ Open a e k) where
+  inside : (a ≤ e) × (e < length text) × (k ≤ e + 1) × (length text ≤ longest)
+  unfolding Within
+  inside = subst (Within text) h w
+
+  pub open-start : a ≤ e
+  open-start = inside .0
+
+  pub open-end : e ≤ length text
+  open-end = omega (arith, inside)
+
+  pub next-fits : e + 1 < 2 ^ 64
+  next-fits = omega (arith, inside)
+
+  pub line-fits : k + 1 < 2 ^ 32
+  line-fits = omega (arith, inside)
+
+  next-cursor : cursorOf text (On (e + 1) (k + 1)) ≡ on (drop (e + 1) text) (k + 1)
+  unfolding cursorOf
+  next-cursor = let i = inside in rw (stands-here text (e + 1) (k + 1) (omega arith) (omega arith) (i .3))
+
 module _ {A : Type 0} (empty : A) (text key : List ℕ) (read : List ℕ → Field A) (c : Cursor) (r : Line) (o : openedOf text r ≡ opened key c) where
   pub line-closed : (p : Position) → r ≡ Closed p → stepOf text empty p ≡ keyed empty key read c
   unfolding keyed after openedOf
@@ -160,47 +227,11 @@ module _ {A : Type 0} (empty : A) (text key : List ℕ) (read : List ℕ → Fie
     unfolding keyed after openedOf settled cursorOf
     line-bad n q = rw (← o, h) (rw (← q))
 
-    pub line-is : (v : A) → is v ≡ read (part a e text) → stepOf text v (On (e + 1) (k + 1)) ≡ keyed empty key read c
-    unfolding keyed after openedOf settled cursorOf
-    line-is v q = rw (← o, h) (rw (← q))
+    pub line-is : Within text r → (v : A) → is v ≡ read (part a e text) → stepOf text v (On (e + 1) (k + 1)) ≡ keyed empty key read c
+    unfolding keyed after openedOf settled
+    line-is w v q = rw (← o, h) (rw (← q, next-cursor text r w a e k h))
 
--- Where it leaves the position.
-pub stopped-standing : (text : List ℕ) (n k : ℕ) → Standing text (Stopped n k)
-unfolding Standing
-stopped-standing text n k = tt
-
-module _ (text : List ℕ) (r : Line) (w : Within text r) where
-  pub closed-standing : (p : Position) → r ≡ Closed p → Standing text p
-  unfolding Within
-  closed-standing p h = subst (Within text) h w
-
-  module _ (a e k : ℕ) (h : r ≡ Open a e k) where
-    inside : (a ≤ e) × (e < length text) × (k ≤ e + 1) × (length text ≤ longest)
-    unfolding Within
-    inside = subst (Within text) h w
-
-    pub open-start : a ≤ e
-    open-start = inside .0
-
-    pub open-end : e ≤ length text
-    open-end = omega (arith, inside)
-
-    pub next-fits : e + 1 < 2 ^ 64
-    next-fits = omega (arith, inside)
-
-    pub line-fits : k + 1 < 2 ^ 32
-    line-fits = omega (arith, inside)
-
-    pub next-standing : Standing text (On (e + 1) (k + 1))
-    unfolding Standing
-    next-standing = let i = inside in (omega arith, omega arith, i .3)
-
--- What a line's reader of the code needs on its ways: the field's ends, and the next position.
-pub ruleset places = (open-start, open-end, next-fits, line-fits, next-standing, closed-standing, stopped-standing)
+-- What a line's reader of the code needs on its ways: the field's ends, and the numbers of the next position.
+pub ruleset places = (open-start, open-end, next-fits, line-fits)
 
 pub ruleset ways = (line-closed, line-bad, line-is)
-
--- The first line of a text that is not too long.
-pub first-standing : (text : List ℕ) → length text ≤ longest → Standing text (On 0 1)
-unfolding Standing
-first-standing text h = (omega arith, omega arith, h)

@@ -1,20 +1,25 @@
 -- The names that stood, at the places remembered: the turns of the loop over them, and the ways through a `name=` line.
 use Prim.Native.Nat.{ℕ, zero, suc, _+_, _-_, _≤_, _<_}
-use mathlib.Core.Path.{_≡_, refl, sym, ap₂, _∙_}
+use mathlib.Core.Path.{_≡_, refl, sym, ap, ap₂, _∙_}
 use mathlib.Core.List.{List, _∷_}
 use mathlib.Core.Bool.{Bool, true, false, not}
-use mathlib.Core.Logic.{_≢_, _⊎_, inl, inr}
+use mathlib.Core.Logic.{_≢_}
 use native.Mathlib.Numerals.{add-one}
 use native.Mathlib.Omega.{arith}
-use lib.ListN.{length, getD, set, length-set}
+use lib.ListN.{length, getD, set, List·getD-eq-default}
 use lib.Seq.{getD-set-same, getD-set-other}
-use Rattle.lists.proofs.Put.{same?}
 use borrow.Author.Tests.{not-true, not-false}
 use Rattle.scan.specs.Bytes.{same, standsIn}
 use Rattle.scan.proofs.Ways.{told}
-use Rattle.field.specs.Fields.{is, bad, name}
+use Rattle.field.specs.Fields.{Field, is, bad, name}
 use Rattle.field.specs.Answers.{isName}
-use Rattle.text.specs.Cursors.{part, namesOf, Remembered}
+use Rattle.text.specs.Cursors.{part, namesOf, nameOf}
+use Rattle.text.specs.declared.NameField.{NameField}
+use Rattle.text.specs.declared.NameField.the-variants.{Fresh, Bad}
+
+-- Past the end of a row.
+pub place-past : (row : List ℕ) (j : ℕ) → length row ≤ j → 0 ≡ getD row j 0
+place-past row j h = sym (List·getD-eq-default row 0 h)
 
 module _ (text starts ends : List ℕ) where
   -- The last name that stood, and those before it.
@@ -29,21 +34,18 @@ module _ (text starts ends : List ℕ) where
     unfolding standsIn namesOf
     stood-none h = let e : j ≡ 0 = omega arith in sym (so-far ∙ rw e)
 
-    module _ (some : 0 < j) (t : Bool) (q : t ≡ same s (part (getD starts (j - 1) 0) (getD ends (j - 1) 0) text)) where
+    module _ (some : 0 < j) (a e : ℕ) (p : List ℕ) (t : Bool) (ea : a ≡ getD starts (j - 1) 0) (ee : e ≡ getD ends (j - 1) 0)
+        (ep : p ≡ part a e text) (q : t ≡ same s p) where
+      tested : t ≡ same s (part (getD starts (j - 1) 0) (getD ends (j - 1) 0) text)
+      tested = rw (← ea, ← ee, ← ep) q
+
       pub stood-here : t ≡ true → true ≡ standsIn s (namesOf text starts ends count)
       unfolding standsIn
-      stood-here e = sym (so-far ∙ rw (last-name j some, told q e, standsIn))
+      stood-here h = sym (so-far ∙ rw (last-name j some, told tested h, standsIn))
 
       pub stood-on : t ≡ false → standsIn s (namesOf text starts ends count) ≡ standsIn s (namesOf text starts ends (j - 1))
       unfolding standsIn
-      stood-on e = so-far ∙ rw (last-name j some, told q e, standsIn)
-
-  module _ (count j : ℕ) (m : Remembered text starts ends count) (l : j ≤ count) (h : 0 < j) where
-    pub row-start : getD starts (j - 1) 0 ≤ getD ends (j - 1) 0
-    row-start = m .start (j - 1) (omega arith)
-
-    pub row-end : getD ends (j - 1) 0 ≤ length text
-    row-end = m .end (j - 1) (omega arith)
+      stood-on h = so-far ∙ rw (last-name j some, told tested h, standsIn)
 
 -- ---- the line
 
@@ -60,6 +62,14 @@ module _ (stood : List (List ℕ)) (s : List ℕ) (t : Bool) (q : t ≡ isName s
     pub name-is : u ≡ false → is s ≡ name stood s
     unfolding name
     name-is e = rw (told q (not-false t h), told p e, name)
+
+-- As a call answered it.
+module _ (x : Field (List ℕ)) (s : List ℕ) (r : NameField) (e : nameOf s r ≡ x) where
+  pub name-fresh : r ≡ Fresh → is s ≡ x
+  name-fresh h = sym (ap (nameOf s) h) ∙ e
+
+  pub name-bad : (n : ℕ) → r ≡ Bad n → bad n ≡ x
+  name-bad n h = sym (ap (nameOf s) h) ∙ e
 
 -- ---- one name more
 
@@ -78,27 +88,3 @@ module _ (text starts ends : List ℕ) (i a b : ℕ) where
     names-more =
         rw add-one
         (ap₂ _∷_ (ap₂ (λ (x y : ℕ). part x y text) (getD-set-same starts i a 0 room) (getD-set-same ends i b 0 room′)) (names-stay i (omega arith)))
-
-    pub remembered-more : Remembered text starts ends i → a ≤ b → b ≤ length text → Remembered text (set starts i a) (set ends i b) (i + 1)
-    remembered-more m l g = record {
-      starts-room = simp length-set (omega arith);
-      ends-room = simp length-set (omega arith);
-      start = λ j h. at j h (same? j i) .0;
-      end = λ j h. at j h (same? j i) .1;
-    }
-      where
-        at : (j : ℕ) → j < i + 1 → (j ≡ i) ⊎ (j ≢ i)
-            → (getD (set starts i a) j 0 ≤ getD (set ends i b) j 0) × (getD (set ends i b) j 0 ≤ length text)
-        at j h (inl e) = rw (e, getD-set-same starts i a 0 room, getD-set-same ends i b 0 room′) (l, g)
-        at j h (inr d) =
-            let k : j < i = omega arith in
-            rw (getD-set-other starts i j a 0 d, getD-set-other ends i j b 0 d) (m .start j k, m .end j k)
-
--- Before the first name nothing is remembered.
-pub remembered-none : (text starts ends : List ℕ) → Remembered text starts ends 0
-remembered-none text starts ends = record {
-  starts-room = omega arith;
-  ends-room = omega arith;
-  start = λ j h. absurd (omega arith);
-  end = λ j h. absurd (omega arith);
-}

@@ -1,9 +1,9 @@
 -- What the positions, lines and names of the code of crate text stand for, on the text that it is lent.
 -- Not to be believed: the contracts of read_plan and read_policy do not name them.
 use Prim.Native.Nat.{ℕ, zero, suc, _+_, _-_, _≤_, _<_}
-use mathlib.Core.Bool.{cond, _&&_}
+use mathlib.Core.Bool.{Bool, cond, _&&_}
 use mathlib.Core.List.{List, [], _∷_}
-use lib.Dec.{ltb}
+use lib.Dec.{leb, ltb}
 use lib.ListN.{length, getD, take, drop}
 use Rattle.scan.specs.Bytes.{before, startsWith}
 use Rattle.field.specs.Fields.{Field, is, bad}
@@ -14,6 +14,8 @@ use Rattle.text.specs.declared.Span.{Span}
 use Rattle.text.specs.declared.Span.the-variants.{At, Missing}
 use Rattle.text.specs.declared.Line.{Line}
 use Rattle.text.specs.declared.Line.the-variants.{Open, Closed}
+use Rattle.text.specs.declared.NameField.{NameField}
+use Rattle.text.specs.declared.NameField.the-variants.{Fresh, Bad}
 
 -- The bytes from a to e, as the code lends them.
 abbrev pub part : ℕ → ℕ → List ℕ → List ℕ
@@ -21,14 +23,14 @@ part a e text = take (e - a) (drop a text)
 
 -- ---- positions
 
-unfoldable pub cursorOf : List ℕ → Position → Cursor
-cursorOf text (On at k) = on (drop at text) k
-cursorOf text (Stopped n k) = stopped n k
+-- The position is one of this text: in it, each line before it took a byte, and the text is not too long.
+unfoldable pub stands : List ℕ → ℕ → ℕ → Bool
+stands text at k = leb (length text) longest && (leb at (length text) && leb k (at + 1))
 
--- The position lies in a text that is not too long, and each line before it took a byte.
-unfoldable pub Standing : List ℕ → Position → Type 0
-Standing text (On at k) = (at ≤ length text) × (k ≤ at + 1) × (length text ≤ longest)
-Standing text (Stopped n k) = Unit
+-- A position that is none of this text has no line: 2, it is missing.
+unfoldable pub cursorOf : List ℕ → Position → Cursor
+cursorOf text (On at k) = cond (stands text at k) (on (drop at text) k) (stopped 2 k)
+cursorOf text (Stopped n k) = stopped n k
 
 -- What a line's reader of the code gives.
 abbrev pub stepOf : {A : Type 0} → List ℕ → A → Position → Step A
@@ -71,10 +73,10 @@ unfoldable pub openedOf : List ℕ → Line → Opened
 openedOf text (Open a e k) = found (part a e text) (drop (e + 1) text) k
 openedOf text (Closed next) = gone (cursorOf text next)
 
--- The field lies in its line.
+-- The field lies in its line, and so many lines took their bytes.
 unfoldable pub Within : List ℕ → Line → Type 0
 Within text (Open a e k) = (a ≤ e) × (e < length text) × (k ≤ e + 1) × (length text ≤ longest)
-Within text (Closed next) = Standing text next
+Within text (Closed next) = Unit
 
 -- ---- names that stood
 
@@ -83,9 +85,7 @@ unfoldable pub namesOf : List ℕ → List ℕ → List ℕ → ℕ → List (Li
 namesOf text starts ends zero = []
 namesOf text starts ends (suc n) = part (getD starts n 0) (getD ends n 0) text ∷ namesOf text starts ends n
 
--- The places lie in the text.
-pub record Remembered (text starts ends : List ℕ) (count : ℕ) : Type 0 where
-  pub starts-room : count ≤ length starts
-  pub ends-room : count ≤ length ends
-  pub start : (j : ℕ) → j < count → getD starts j 0 ≤ getD ends j 0
-  pub end : (j : ℕ) → j < count → getD ends j 0 ≤ length text
+-- A name that did not stand, or the number of the refusal.
+abbrev pub nameOf : List ℕ → NameField → Field (List ℕ)
+nameOf s Fresh = is s
+nameOf s (Bad n) = bad n

@@ -12,12 +12,12 @@ ghost use mathlib.Core.Path.{_≡_};
 ghost use Prim.Native.Nat.{_≤_, _-_};
 ghost use mathlib.Core.Bool.{false};
 ghost use mathlib.Core.List.{[]};
-ghost use lib.ListN.{length};
+ghost use lib.ListN.{getD};
 ghost use Rattle.plan.specs.declared.Form.the-variants.{End};
 ghost use Rattle.plan.specs.declared.Kind.the-variants.{Secrecy};
 ghost use Rattle.scan.specs.Bytes.{bytes, standsIn};
-ghost use Rattle.field.specs.Fields.{number, mask as maskOf, name, form, risk, kind as kindWord, declass as declassOf};
-ghost use Rattle.text.specs.Cursors.{part, cursorOf, Standing, stepOf, spanOf, opened, keyed, openedOf, Within, namesOf, Remembered};
+ghost use Rattle.field.specs.Fields.{number, mask as maskOf, name as nameField, form, risk, kind as kindWord, declass as declassOf};
+ghost use Rattle.text.specs.Cursors.{part, stands, cursorOf, stepOf, spanOf, opened, keyed, openedOf, Within, namesOf, nameOf};
 
 // Document 01's number and line of a refused text.
 pub struct Refusal {
@@ -75,17 +75,38 @@ pub enum Line {
     Closed(Position),
 }
 
+// Each text has at most 16,384 bytes (document 01, The two texts).
+pub const LONGEST: usize = 16384;
+
+// Whether a position is one of this text: in it, each line before it with a byte of its own, and the text not too long.
+pub fn is_standing(text: &[u8], at: usize, line: u32) -> bool
+    ensures { λ r. ⌜ r ≡ stands (now (text .entry)) at line ⌝ }
+{
+    if LONGEST < text.len() {
+        return false;
+    }
+    if text.len() < at {
+        return false;
+    }
+    line as usize <= at + 1
+}
+
+// The line at a position; it is missing where the position is none of this text.
 fn open_line(text: &[u8], from: Position, key: &[u8]) -> Line
-    requires { ⌜ Standing (now text) from ⌝ }
     ensures { λ r. ⌜ openedOf (now (text .entry)) r ≡ opened (now (key .entry)) (cursorOf (now (text .entry)) from) ⌝ }
     ensures room { λ r. ⌜ Within (now (text .entry)) r ⌝ }
 {
     match from {
         Position::Stopped(number, line) => Line::Closed(Position::Stopped(number, line)),
-        Position::On(at, line) => match read_field(&text[at..], key) {
-            Span::Missing => Line::Closed(Position::Stopped(field::LAYOUT, line)),
-            Span::At(start, end) => Line::Open(at + start, at + end, line),
-        },
+        Position::On(at, line) => {
+            if !is_standing(text, at, line) {
+                return Line::Closed(Position::Stopped(field::LAYOUT, line));
+            }
+            match read_field(&text[at..], key) {
+                Span::Missing => Line::Closed(Position::Stopped(field::LAYOUT, line)),
+                Span::At(start, end) => Line::Open(at + start, at + end, line),
+            }
+        }
     }
 }
 
@@ -104,9 +125,7 @@ pub fn number_line(
     low: u8,
     limit: u8,
 ) -> NumberLine
-    requires { ⌜ Standing (now text) from ⌝ }
     ensures { λ r. ⌜ stepOf (now (text .entry)) (r .value) (r .next) ≡ keyed 0 (now (key .entry)) (number refusal low limit) (cursorOf (now (text .entry)) from) ⌝ }
-    ensures room { λ r. ⌜ Standing (now (text .entry)) (r .next) ⌝ }
     ensures range { λ r. ⌜ r .value ≤ limit - 1 ⌝ }
 {
     match open_line(text, from, key) {
@@ -136,13 +155,11 @@ pub struct MaskLine {
 
 // A line with a mask of eight digits over so many identifiers.
 pub fn mask_line(text: &[u8], from: Position, key: &[u8], items: u8) -> MaskLine
-    requires { ⌜ Standing (now text) from × (items ≤ 32) ⌝ }
     ensures { λ r. ⌜ stepOf (now (text .entry)) (r .value) (r .next) ≡ keyed 0 (now (key .entry)) (maskOf 8 items) (cursorOf (now (text .entry)) from) ⌝ }
-    ensures room { λ r. ⌜ Standing (now (text .entry)) (r .next) ⌝ }
 {
     match open_line(text, from, key) {
         Line::Closed(next) => MaskLine { value: 0, next },
-        Line::Open(start, end, line) => match field::read_mask(&text[start..end], 8, items) {
+        Line::Open(start, end, line) => match field::read_identifiers(&text[start..end], items) {
             NumberField::Bad(number) => MaskLine {
                 value: 0,
                 next: Position::Stopped(number, line),
@@ -162,9 +179,7 @@ pub struct FormLine {
 
 // The `form=` line of a plan with n templates.
 pub fn form_line(text: &[u8], from: Position, n: u8) -> FormLine
-    requires { ⌜ Standing (now text) from ⌝ }
     ensures { λ r. ⌜ stepOf (now (text .entry)) (r .value) (r .next) ≡ keyed End (bytes "form=") (form n) (cursorOf (now (text .entry)) from) ⌝ }
-    ensures room { λ r. ⌜ Standing (now (text .entry)) (r .next) ⌝ }
 {
     match open_line(text, from, b"form=") {
         Line::Closed(next) => FormLine {
@@ -191,9 +206,7 @@ pub struct RiskLine {
 
 // The `risk=` line.
 pub fn risk_line(text: &[u8], from: Position) -> RiskLine
-    requires { ⌜ Standing (now text) from ⌝ }
     ensures { λ r. ⌜ stepOf (now (text .entry)) (r .value) (r .next) ≡ keyed false (bytes "risk=") risk (cursorOf (now (text .entry)) from) ⌝ }
-    ensures room { λ r. ⌜ Standing (now (text .entry)) (r .next) ⌝ }
 {
     match open_line(text, from, b"risk=") {
         Line::Closed(next) => RiskLine { value: false, next },
@@ -217,9 +230,7 @@ pub struct KindLine {
 
 // The `kind=` line.
 pub fn kind_line(text: &[u8], from: Position) -> KindLine
-    requires { ⌜ Standing (now text) from ⌝ }
     ensures { λ r. ⌜ stepOf (now (text .entry)) (r .value) (r .next) ≡ keyed Secrecy (bytes "kind=") kindWord (cursorOf (now (text .entry)) from) ⌝ }
-    ensures room { λ r. ⌜ Standing (now (text .entry)) (r .next) ⌝ }
 {
     match open_line(text, from, b"kind=") {
         Line::Closed(next) => KindLine {
@@ -253,9 +264,7 @@ pub fn declass_line(
     source: u8,
     sink: u8,
 ) -> DeclassLine
-    requires { ⌜ Standing (now text) from ⌝ }
     ensures { λ r. ⌜ stepOf (now (text .entry)) (r .value) (r .next) ≡ keyed 0 (bytes "declass=") (declassOf n kind source sink) (cursorOf (now (text .entry)) from) ⌝ }
-    ensures room { λ r. ⌜ Standing (now (text .entry)) (r .next) ⌝ }
 {
     match open_line(text, from, b"declass=") {
         Line::Closed(next) => DeclassLine { value: 0, next },
@@ -278,28 +287,49 @@ pub fn declass_line(
     }
 }
 
-// Whether the bytes from start to end are one of the names at the first places of the two rows.
-fn name_stood(
-    text: &[u8],
-    start: usize,
-    end: usize,
-    starts: &[usize],
-    ends: &[usize],
-    count: usize,
-) -> bool
-    requires { ⌜ Remembered (now text) (now starts) (now ends) count × (start ≤ end) × (end ≤ length (now text)) ⌝ }
-    ensures { λ r. ⌜ r ≡ standsIn (part start end (now (text .entry))) (namesOf (now (text .entry)) (now (starts .entry)) (now (ends .entry)) count) ⌝ }
+// What stands at a place of a row; past its end nothing, which is 0.
+fn place_at(row: &[usize], j: usize) -> usize
+    ensures { λ r. ⌜ r ≡ getD (now (row .entry)) j 0 ⌝ }
 {
-    let mut j = count;
+    if j < row.len() {
+        return row[j];
+    }
+    0
+}
+
+// Whether a name is one of those at the first places of the two rows.
+fn name_stood(text: &[u8], name: &[u8], starts: &[usize], ends: &[usize], count: u8) -> bool
+    ensures { λ r. ⌜ r ≡ standsIn (now (name .entry)) (namesOf (now (text .entry)) (now (starts .entry)) (now (ends .entry)) count) ⌝ }
+{
+    let mut j = count as usize;
     while 0 < j {
         j -= 1;
-        let a = starts[j];
-        let e = ends[j];
-        if scan::same_bytes(&text[start..end], &text[a..e]) {
+        let start = place_at(starts, j);
+        let end = place_at(ends, j);
+        if scan::same_bytes(name, scan::part(text, start, end)) {
             return true;
         }
     }
     false
+}
+
+// The field of a `name=` line.
+pub enum NameField {
+    Fresh,
+    Bad(u8),
+}
+
+// A name that did not stand earlier: its layout first, then the names at the first places of the two rows.
+fn read_name(text: &[u8], name: &[u8], starts: &[usize], ends: &[usize], count: u8) -> NameField
+    ensures { λ r. ⌜ nameOf (now (name .entry)) r ≡ nameField (namesOf (now (text .entry)) (now (starts .entry)) (now (ends .entry)) count) (now (name .entry)) ⌝ }
+{
+    if !field::is_name(name) {
+        return NameField::Bad(field::LAYOUT);
+    }
+    if name_stood(text, name, starts, ends, count) {
+        return NameField::Bad(field::STOOD);
+    }
+    NameField::Fresh
 }
 
 // Where the name stands; nowhere if the line is refused.
@@ -315,12 +345,9 @@ pub fn name_line(
     from: Position,
     starts: &[usize],
     ends: &[usize],
-    count: usize,
+    count: u8,
 ) -> NameLine
-    requires { ⌜ Standing (now text) from × Remembered (now text) (now starts) (now ends) count ⌝ }
-    ensures { λ r. ⌜ stepOf (now (text .entry)) (part (r .start) (r .end) (now (text .entry))) (r .next) ≡ keyed [] (bytes "name=") (name (namesOf (now (text .entry)) (now (starts .entry)) (now (ends .entry)) count)) (cursorOf (now (text .entry)) from) ⌝ }
-    ensures room { λ r. ⌜ Standing (now (text .entry)) (r .next) ⌝ }
-    ensures place { λ r. ⌜ (r .start ≤ r .end) × (r .end ≤ length (now (text .entry))) ⌝ }
+    ensures { λ r. ⌜ stepOf (now (text .entry)) (part (r .start) (r .end) (now (text .entry))) (r .next) ≡ keyed [] (bytes "name=") (nameField (namesOf (now (text .entry)) (now (starts .entry)) (now (ends .entry)) count)) (cursorOf (now (text .entry)) from) ⌝ }
 {
     match open_line(text, from, b"name=") {
         Line::Closed(next) => NameLine {
@@ -328,26 +355,23 @@ pub fn name_line(
             end: 0,
             next,
         },
-        Line::Open(start, end, line) => {
-            if !field::is_name(&text[start..end]) {
-                return NameLine {
-                    start: 0,
-                    end: 0,
-                    next: Position::Stopped(field::LAYOUT, line),
-                };
-            }
-            if name_stood(text, start, end, starts, ends, count) {
-                return NameLine {
-                    start: 0,
-                    end: 0,
-                    next: Position::Stopped(field::STOOD, line),
-                };
-            }
-            NameLine {
+        Line::Open(start, end, line) => match read_name(
+            text,
+            &text[start..end],
+            starts,
+            ends,
+            count,
+        ) {
+            NameField::Bad(number) => NameLine {
+                start: 0,
+                end: 0,
+                next: Position::Stopped(number, line),
+            },
+            NameField::Fresh => NameLine {
                 start,
                 end,
                 next: Position::On(end + 1, line + 1),
-            }
-        }
+            },
+        },
     }
 }

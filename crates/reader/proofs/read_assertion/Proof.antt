@@ -29,7 +29,7 @@ declass-line-requires : tie.Need-declass-line-requires
 declass-line-requires c κs = search needs
 
 returns : tie.Need-returns
-returns c = (search assertion-gathered, search needs)
+returns c = search assertion-gathered
 
 pub read-assertion-spec : {M : Type 1} → statement M
 read-assertion-spec =

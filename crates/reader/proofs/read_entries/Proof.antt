@@ -21,6 +21,9 @@ slice-aggregate-read-entry c = search needs
 slice-aggregate-read-entry-2 : tie.Need-slice-aggregate-read-entry-2 Inv-loop μ-loop
 slice-aggregate-read-entry-2 c = search needs
 
+cast-read-entry : tie.Need-cast-read-entry Inv-loop μ-loop
+cast-read-entry c = search needs
+
 read-entry-requires : tie.Need-read-entry-requires Inv-loop μ-loop
 read-entry-requires c κs = search needs
 
@@ -52,7 +55,7 @@ loop-again : tie.Need-loop-again Inv-loop μ-loop
 loop-again c = search turn-next
 
 returns : tie.Need-returns Inv-loop μ-loop
-returns c = (search turn-last, search needs)
+returns c = search turn-last
 
 pub read-entries-spec : {M : Type 1} → statement M
 read-entries-spec =
@@ -63,6 +66,7 @@ read-entries-spec =
     loop-holds
     slice-aggregate-read-entry
     slice-aggregate-read-entry-2
+    cast-read-entry
     read-entry-requires
     mul-templates
     array-set-from-templates

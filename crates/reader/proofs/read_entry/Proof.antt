@@ -17,7 +17,7 @@ risk-line-requires : tie.Need-risk-line-requires
 risk-line-requires c κs = search needs
 
 returns : tie.Need-returns
-returns c = (search entry-gathered, (search needs, search needs))
+returns c = search entry-gathered
 
 pub read-entry-spec : {M : Type 1} → statement M
 read-entry-spec =

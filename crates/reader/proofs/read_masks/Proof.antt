@@ -29,7 +29,7 @@ mask-line-requires-4 : tie.Need-mask-line-requires-4
 mask-line-requires-4 c κs = search needs
 
 returns : tie.Need-returns
-returns c = (search masks-gathered, search needs)
+returns c = search masks-gathered
 
 pub read-masks-spec : {M : Type 1} → statement M
 read-masks-spec =

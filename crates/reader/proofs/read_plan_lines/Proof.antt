@@ -1,5 +1,4 @@
 -- The two counts, then the templates; a count that was read is at most 64.
-use Rattle.text.proofs.Lines.{first-standing}
 use Rattle.reader.proofs.Gathered.{plan-gathered}
 use borrow.Author.Needs.{needs}
 use Rattle.reader.proofs.read_plan_lines.Statement.{statement}
@@ -9,7 +8,7 @@ slice-aggregate-number-line : tie.Need-slice-aggregate-number-line
 slice-aggregate-number-line c = search needs
 
 number-line-requires : tie.Need-number-line-requires
-number-line-requires c κs = search first-standing
+number-line-requires c κs = search needs
 
 slice-aggregate-number-line-2 : tie.Need-slice-aggregate-number-line-2
 slice-aggregate-number-line-2 c = search needs

@@ -1,5 +1,4 @@
 -- The count, then the assertions; a count that was read is at most 32.
-use Rattle.text.proofs.Lines.{first-standing}
 use Rattle.reader.proofs.Gathered.{policy-gathered}
 use borrow.Author.Needs.{needs}
 use Rattle.reader.proofs.read_policy_lines.Statement.{statement}
@@ -9,7 +8,7 @@ slice-aggregate-number-line : tie.Need-slice-aggregate-number-line
 slice-aggregate-number-line c = search needs
 
 number-line-requires : tie.Need-number-line-requires
-number-line-requires c κs = search first-standing
+number-line-requires c κs = search needs
 
 read-assertions-requires : tie.Need-read-assertions-requires
 read-assertions-requires c κs = search needs

@@ -15,17 +15,17 @@ enum-known-next c = search needs
 enum-known-start : tie.Need-enum-known-start
 enum-known-start c = search needs
 
-sub-read-mask : tie.Need-sub-read-mask
-sub-read-mask c = search places
+sub-read-identifiers : tie.Need-sub-read-identifiers
+sub-read-identifiers c = search places
 
-part-read-mask-start : tie.Need-part-read-mask-start
-part-read-mask-start c = search places
+part-read-identifiers-start : tie.Need-part-read-identifiers-start
+part-read-identifiers-start c = search places
 
-part-read-mask-end : tie.Need-part-read-mask-end
-part-read-mask-end c = search places
+part-read-identifiers-end : tie.Need-part-read-identifiers-end
+part-read-identifiers-end c = search places
 
-read-mask-requires : tie.Need-read-mask-requires
-read-mask-requires c κs = search needs
+read-identifiers-requires : tie.Need-read-identifiers-requires
+read-identifiers-requires c κs = search needs
 
 enum-known-number : tie.Need-enum-known-number
 enum-known-number c = search needs
@@ -43,13 +43,13 @@ add-t22 : tie.Need-add-t22
 add-t22 c = search (needs, places)
 
 returns : tie.Need-returns
-returns c = (search ways, search places)
+returns c = search ways
 
 returns-2 : tie.Need-returns-2
-returns-2 c = (search (ways, answers), search places)
+returns-2 c = search (ways, answers)
 
 returns-3 : tie.Need-returns-3
-returns-3 c = (search (ways, answers), search places)
+returns-3 c = search (ways, answers)
 
 pub mask-line-spec : {M : Type 1} → statement M
 mask-line-spec =
@@ -58,10 +58,10 @@ mask-line-spec =
     open-line-requires
     enum-known-next
     enum-known-start
-    sub-read-mask
-    part-read-mask-start
-    part-read-mask-end
-    read-mask-requires
+    sub-read-identifiers
+    part-read-identifiers-start
+    part-read-identifiers-end
+    read-identifiers-requires
     enum-known-number
     enum-known-m
     cast-t20

@@ -1,6 +1,6 @@
--- The layout first, then the names that stood.
+-- The line is opened, then its field read.
 use Rattle.text.proofs.Lines.{ways, places}
-use Rattle.text.proofs.Names.{name-layout, name-stood, name-is}
+use Rattle.text.proofs.Names.{name-fresh, name-bad}
 use borrow.Author.Needs.{needs}
 use Rattle.text.proofs.name_line.Statement.{statement}
 use Rattle.text.proofs.name_line.Tie as tie
@@ -17,38 +17,38 @@ enum-known-next c = search needs
 enum-known-start : tie.Need-enum-known-start
 enum-known-start c = search needs
 
-sub-is-name : tie.Need-sub-is-name
-sub-is-name c = search places
+sub-read-name : tie.Need-sub-read-name
+sub-read-name c = search places
 
-part-is-name-start : tie.Need-part-is-name-start
-part-is-name-start c = search places
+part-read-name-start : tie.Need-part-read-name-start
+part-read-name-start c = search places
 
-part-is-name-end : tie.Need-part-is-name-end
-part-is-name-end c = search places
+part-read-name-end : tie.Need-part-read-name-end
+part-read-name-end c = search places
 
-is-name-requires : tie.Need-is-name-requires
-is-name-requires c κs = search needs
+read-name-requires : tie.Need-read-name-requires
+read-name-requires c κs = search needs
 
-returns : tie.Need-returns
-returns c = (search (ways, name-layout), (search places, search needs))
+enum-known-number : tie.Need-enum-known-number
+enum-known-number c = search needs
 
-name-stood-requires : tie.Need-name-stood-requires
-name-stood-requires c κs = search (needs, places)
+enum-told : tie.Need-enum-told
+enum-told c = search needs
 
-returns-2 : tie.Need-returns-2
-returns-2 c = (search (ways, name-stood), (search places, search needs))
-
-add-t17 : tie.Need-add-t17
-add-t17 c = search (needs, places)
+add-t23 : tie.Need-add-t23
+add-t23 c = search (needs, places)
 
 add-t24 : tie.Need-add-t24
 add-t24 c = search (needs, places)
 
-returns-3 : tie.Need-returns-3
-returns-3 c = (search ways, (search places, search needs))
+returns : tie.Need-returns
+returns c = search ways
 
-returns-4 : tie.Need-returns-4
-returns-4 c = (search (ways, name-is), (search places, search places))
+returns-2 : tie.Need-returns-2
+returns-2 c = search (ways, name-bad)
+
+returns-3 : tie.Need-returns-3
+returns-3 c = search (ways, name-fresh)
 
 pub name-line-spec : {M : Type 1} → statement M
 name-line-spec =
@@ -58,14 +58,14 @@ name-line-spec =
     open-line-requires
     enum-known-next
     enum-known-start
-    sub-is-name
-    part-is-name-start
-    part-is-name-end
-    is-name-requires
-    returns
-    name-stood-requires
-    returns-2
-    add-t17
+    sub-read-name
+    part-read-name-start
+    part-read-name-end
+    read-name-requires
+    enum-known-number
+    enum-told
+    add-t23
     add-t24
-    returns-3
-    returns-4)
+    returns
+    returns-2
+    returns-3)

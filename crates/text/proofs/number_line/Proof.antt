@@ -43,13 +43,13 @@ add-t24 : tie.Need-add-t24
 add-t24 c = search (needs, places)
 
 returns : tie.Need-returns
-returns c = (search ways, (search places, search needs))
+returns c = (search ways, search needs)
 
 returns-2 : tie.Need-returns-2
-returns-2 c = (search (ways, answers), (search places, search needs))
+returns-2 c = (search (ways, answers), search needs)
 
 returns-3 : tie.Need-returns-3
-returns-3 c = (search (ways, answers), (search places, search number-last))
+returns-3 c = (search (ways, answers), search number-last)
 
 pub number-line-spec : {M : Type 1} → statement M
 number-line-spec =

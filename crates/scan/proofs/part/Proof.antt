@@ -1,8 +1,8 @@
 -- An empty part, the rest of the text, or what lies between.
-use Rattle.showing.proofs.Parts.{part-empty, part-past, part-rest}
+use Rattle.scan.proofs.Parts.{part-empty, part-past, part-rest}
 use borrow.Author.Needs.{needs}
-use Rattle.showing.proofs.part.Statement.{statement}
-use Rattle.showing.proofs.part.Tie as tie
+use Rattle.scan.proofs.part.Statement.{statement}
+use Rattle.scan.proofs.part.Tie as tie
 
 sub-result : tie.Need-sub-result
 sub-result c = search needs
