@@ -37,3 +37,39 @@ pub fn read_text(file: i32, buffer: &mut [u8], size: usize) -> usize
     }
     io::read_full(file, &mut buffer[0..size])
 }
+
+// How many bytes of a case's two texts are now in the buffers; found is false where there is no case left.
+pub struct Pair {
+    pub found: bool,
+    pub plan: usize,
+    pub policy: usize,
+}
+
+// The next case of two texts.
+pub fn read_pair(file: i32, plan: &mut [u8], policy: &mut [u8]) -> Pair
+    ensures { λ r. ⌜ (r .plan ≤ length (now (plan .exit))) × (r .policy ≤ length (now (policy .exit))) ⌝ }
+{
+    let mut header: [u8; 8] = [0; 8];
+    if read_text(file, &mut header, 8) < 8 {
+        return Pair {
+            found: false,
+            plan: 0,
+            policy: 0,
+        };
+    }
+    let n = read_text(
+        file,
+        plan,
+        length_of(header[0], header[1], header[2], header[3]),
+    );
+    let m = read_text(
+        file,
+        policy,
+        length_of(header[4], header[5], header[6], header[7]),
+    );
+    Pair {
+        found: true,
+        plan: n,
+        policy: m,
+    }
+}

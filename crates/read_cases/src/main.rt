@@ -1,8 +1,4 @@
-// Reads the stored texts one after the other and prints an answer line for each case. The file `texts` holds the cases:
-// two lengths of four hexadecimal digits, a plan text and a policy text. tools/read_corpus writes it, and the answers
-// that this program must print.
-use field::NumberField;
-use libc::STDOUT_FILENO;
+// Reads stored pairs of texts: for each a line with what was read, or which text is refused, with number and line.
 use plan::Assertion;
 use plan::Form;
 use plan::Kind;
@@ -10,22 +6,6 @@ use plan::Plan;
 use plan::Policy;
 use plan::Template;
 use text::Reading;
-ghost use Prim.Native.Nat.{_≤_};
-ghost use lib.ListN.{length};
-ghost use mathlib.Core.Path.{_≡_};
-ghost use Rattle.io.specs.Counts.{Counts};
-
-fn read_file(path: &[u8], buf: &mut [u8]) -> usize
-    ensures { λ r. ⌜ Counts r (now (buf .exit)) ⌝ }
-{
-    let fd = os::open_read(path);
-    if fd < 0 {
-        return 0;
-    }
-    let n = io::read_full(fd, buf);
-    libc::close(fd);
-    n
-}
 
 // One value more in the sum over all that was read.
 fn mix(sum: u64, value: u64) -> u64 {
@@ -85,28 +65,29 @@ fn mix_policy(sum: u64, policy: Policy) -> u64 {
     total
 }
 
-fn print_number(n: u64) {
-    io::write_all(STDOUT_FILENO, b" ");
-    io::print_decimal(STDOUT_FILENO, n);
+fn print_value(n: u64) {
+    console::print(b" ");
+    console::print_number(n);
 }
 
 fn print_refused(name: &[u8], number: u8, line: u32) {
-    io::write_all(STDOUT_FILENO, name);
-    print_number(number as u64);
-    print_number(line as u64);
-    io::write_all(STDOUT_FILENO, b"\n");
+    console::print(name);
+    print_value(number as u64);
+    print_value(line as u64);
+    console::print(b"\n");
 }
 
+// The counts, and one number for all that was read.
 fn print_read(plan: Plan, policy: Policy) {
-    io::write_all(STDOUT_FILENO, b"read");
-    print_number(plan.count as u64);
-    print_number(plan.identifiers as u64);
-    print_number(policy.count as u64);
-    print_number(mix_policy(mix_plan(0, plan), policy));
-    io::write_all(STDOUT_FILENO, b"\n");
+    console::print(b"read");
+    print_value(plan.count as u64);
+    print_value(plan.identifiers as u64);
+    print_value(policy.count as u64);
+    print_value(mix_policy(mix_plan(0, plan), policy));
+    console::print(b"\n");
 }
 
-fn answer_policy(plan: Plan, policy_text: &[u8]) {
+fn print_policy(plan: Plan, policy_text: &[u8]) {
     let n = plan.count;
     if 64 < n {
         return;
@@ -124,13 +105,13 @@ fn answer_policy(plan: Plan, policy_text: &[u8]) {
     }
 }
 
-fn answer(plan_text: &[u8], policy_text: &[u8]) {
+fn print_case(plan_text: &[u8], policy_text: &[u8]) {
     let read = reader::read_plan(plan_text);
     let result = read.answer;
     match result {
         Reading::Complete => {
             let plan = read.plan;
-            answer_policy(plan, policy_text);
+            print_policy(plan, policy_text);
         }
         Reading::Refused(r) => {
             print_refused(b"plan", r.number, r.line);
@@ -138,53 +119,27 @@ fn answer(plan_text: &[u8], policy_text: &[u8]) {
     }
 }
 
-// Four hexadecimal digits.
-fn length_of(s: &[u8]) -> usize {
-    match field::read_mask(s, 4, 64) {
-        NumberField::Is(n) => n as usize,
-        NumberField::Bad(_) => 0,
+// One case of the file; false where there is none left.
+fn one_case(file: i32) -> bool {
+    let mut plan = io::large_buffer();
+    let mut policy = io::large_buffer();
+    let read = corpus::read_pair(file, &mut plan, &mut policy);
+    if !read.found {
+        return false;
     }
-}
-
-// One case, and how long it is; 0 where it is cut off.
-fn one_case(s: &[u8]) -> usize
-    ensures { λ r. ⌜ r ≤ length (now (s .entry)) ⌝ }
-{
-    if s.len() < 8 {
-        return 0;
-    }
-    let a = length_of(&s[0..4]);
-    let b = length_of(&s[4..8]);
-    let rest = s.len() - 8;
-    if rest < a {
-        return 0;
-    }
-    if rest - a < b {
-        return 0;
-    }
-    answer(&s[8..8 + a], &s[8 + a..8 + a + b]);
-    8 + a + b
-}
-
-fn all_cases(s: &[u8]) {
-    let mut at = 0;
-    while at < s.len() {
-        let n = one_case(&s[at..]);
-        if n == 0 {
-            return;
-        }
-        at += n;
-    }
-}
-
-fn room() -> [u8; 524288]
-    ensures { λ r. ⌜ 524288 ≡ length r ⌝ }
-{
-    [0; 524288]
+    let n = read.plan;
+    let m = read.policy;
+    print_case(&plan[0..n], &policy[0..m]);
+    true
 }
 
 fn main() {
-    let mut buf = room();
-    let n = read_file(b"texts", &mut buf);
-    all_cases(&buf[..n]);
+    let file = os::open_read(b"cases");
+    let mut left: u32 = 100000;
+    while 0 < left {
+        if !one_case(file) {
+            return;
+        }
+        left -= 1;
+    }
 }

@@ -8,7 +8,7 @@ use reference::history::promise;
 use reference::judge::{assertion, first_broken, judge, locate, read, show, Broken, Text, Verdict};
 use reference::machine::Answer;
 use reference::near;
-use reference::plan::{has, Assertion, Form, Kind};
+use reference::plan::{has, Assertion, Form, Kind, Plan};
 use reference::read::MAX_TEXT;
 use reference::replay::{answer_line, dump, read_calls, replay};
 use reference::rng::Rng;
@@ -134,15 +134,20 @@ fn due(case: &Case, text: Text, line: usize) -> &'static str {
     }
 }
 
+fn add_assertions(r: &mut Rng, d: &mut Draft, k: usize) {
+    for _ in 0..k {
+        let a = d.random_assertion(r);
+        d.policy.push(a);
+    }
+}
+
 /// A small pair of texts, nine times in ten with one to three damages; never too long.
 fn damaged(r: &mut Rng) -> Case {
     let n = *r.pick(&[1, 2, 2, 2, 3, 3]);
     let m = *r.pick(&[0, 1, 2, 3, 5, 31, 32]);
     let mut d = Draft::random(r, n, m);
-    for _ in 0..*r.pick(&[0, 1, 1, 2]) {
-        let a = d.random_assertion(r);
-        d.policy.push(a);
-    }
+    let k = *r.pick(&[0, 1, 1, 2]);
+    add_assertions(r, &mut d, k);
     let mut case = Case { plan: d.plan_text(), policy: d.policy_text() };
     let which = r.below(20);
     for _ in 0..if r.percent(20) { 2 } else { 1 } {
@@ -156,10 +161,22 @@ fn damaged(r: &mut Rng) -> Case {
     case
 }
 
+/// A pair of the largest counts; one text of it damaged, or none.
+fn large_case(r: &mut Rng, text: Option<Text>) -> Case {
+    let mut d = Draft::random(r, 64, 32);
+    add_assertions(r, &mut d, 32);
+    let mut case = Case { plan: d.plan_text(), policy: d.policy_text() };
+    match text {
+        Some(Text::Plan) => damage(r, &d, &mut case.plan),
+        Some(Text::Policy) => damage(r, &d, &mut case.policy),
+        None => {}
+    }
+    case
+}
+
 fn long_case(r: &mut Rng, text: Text) -> Case {
     let mut d = Draft::random(r, 1, 1);
-    let a = d.random_assertion(r);
-    d.policy.push(a);
+    add_assertions(r, &mut d, 1);
     let mut case = Case { plan: d.plan_text(), policy: d.policy_text() };
     match text {
         Text::Plan => {
@@ -175,22 +192,46 @@ fn corner_cases() -> Vec<Case> {
     corners().into_iter().map(|(plan, policy)| Case { plan, policy }).collect()
 }
 
+/// One number for all that was read, places that stay blank included; the README says over what.
+fn sum(plan: &Plan, policy: &[Assertion]) -> u64 {
+    let mut values = vec![];
+    for t in &plan.templates {
+        match t.form {
+            Form::End => values.push(0),
+            Form::Go(y) => values.extend([1, y as u64]),
+            Form::Either(y, z) => values.extend([2, y as u64, z as u64]),
+            Form::Both(y, z) => values.extend([3, y as u64, z as u64]),
+        }
+        values.extend([t.lab, t.pos, t.neg, t.creates, t.risk as u32].map(u64::from));
+    }
+    for i in 0..32 {
+        values.extend(policy.get(i).map_or([0; 5], |a| {
+            [(a.kind == Kind::Prot) as u64, a.source as u64, a.sink as u64, a.anc as u64, a.declass]
+        }));
+    }
+    values.into_iter().fold(0, |sum, v| (sum * 31 + v % 1_000_003) % 1_000_003)
+}
+
 fn read_line(c: &Case) -> String {
     match read(&c.plan, &c.policy) {
-        Ok(_) => "read".to_string(),
+        Ok((plan, _, policy)) => format!("read {} {} {} {}", plan.n, plan.m, policy.len(), sum(&plan, &policy)),
         Err((text, refusal)) => format!("{} {} {}", text.word(), refusal.number, refusal.line),
     }
 }
+
+/// So many cases at least of each number of each text.
+const EACH_NUMBER: usize = 20;
 
 fn read_corpus(r: &mut Rng, n: usize, long: usize) -> (Vec<u8>, String, Counts) {
     let mut buckets = Buckets(BTreeMap::new());
     for _ in 0..30 * n {
         let c = damaged(r);
+        // what has few places gets more shares
         let kind = match read(&c.plan, &c.policy) {
-            Ok(_) => ("read", 0, "", 0),
-            // numbers 2, 5 and 6 have more places than the others
+            Ok(_) => ("read", 0, "", r.below(6)),
             Err((t, f)) => (t.word(), f.number, due(&c, t, f.line), match f.number {
                 2 => r.below(2),
+                4 if t == Text::Policy => r.below(3),
                 5 | 6 => r.below(3),
                 _ => 0,
             }),
@@ -204,17 +245,28 @@ fn read_corpus(r: &mut Rng, n: usize, long: usize) -> (Vec<u8>, String, Counts) 
         let mut c = long_case(r, text);
         if text == Text::Plan { &mut c.plan } else { &mut c.policy }.truncate(MAX_TEXT);
         list.push(c);
+        list.extend((0..8).map(|_| large_case(r, Some(text))));
     }
+    list.extend((0..4).map(|_| large_case(r, None)));
     list.extend(buckets.take(n - list.len()));
     shuffle(r, &mut list);
     let (mut cases, mut stdout, mut counts) = (vec![], String::new(), Counts::new());
     for c in &list {
         write_case(&mut cases, c);
         stdout += &(read_line(c) + "\n");
-        count(&mut counts, match read(&c.plan, &c.policy) {
-            Ok(_) => "read".to_string(),
-            Err((t, f)) => format!("{} {} ({})", t.word(), f.number, due(c, t, f.line)),
-        });
+        match read(&c.plan, &c.policy) {
+            Ok(_) => count(&mut counts, "read"),
+            Err((t, f)) => {
+                count(&mut counts, format!("{} {}", t.word(), f.number));
+                count(&mut counts, format!("{} {} ({})", t.word(), f.number, due(c, t, f.line)));
+            }
+        }
+    }
+    for (text, numbers) in [("plan", [1, 2, 3, 4, 5]), ("policy", [1, 2, 3, 4, 6])] {
+        for number in numbers {
+            let kind = format!("{text} {number}");
+            assert!(counts.get(&kind).is_some_and(|&c| c >= EACH_NUMBER), "too few cases of {kind}");
+        }
     }
     (cases, stdout, counts)
 }
