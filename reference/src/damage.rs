@@ -1,6 +1,7 @@
 //! Texts damaged line by line.
 
 use crate::generate::Draft;
+use crate::judge::Text;
 use crate::read::MAX_TEXT;
 use crate::rng::Rng;
 
@@ -23,7 +24,7 @@ fn lines(text: &[u8]) -> Vec<(usize, usize)> {
 }
 
 /// One damage to one line, each kind of line alike often.
-pub fn damage(r: &mut Rng, d: &Draft, text: &mut Vec<u8>) {
+fn damage(r: &mut Rng, d: &Draft, text: &mut Vec<u8>) {
     let all = lines(text);
     if all.is_empty() {
         return;
@@ -168,8 +169,65 @@ fn general(r: &mut Rng, text: &mut Vec<u8>, start: usize, end: usize, next: Opti
     }
 }
 
+/// A plan text and a policy text.
+pub type Pair = (Vec<u8>, Vec<u8>);
+
+/// A small pair of texts, nine times in ten with one to three damages; never too long.
+pub fn damaged(r: &mut Rng) -> Pair {
+    let n = *r.pick(&[1, 2, 2, 2, 3, 3]);
+    let m = *r.pick(&[0, 1, 2, 3, 5, 31, 32]);
+    let mut d = Draft::random(r, n, m);
+    for _ in 0..*r.pick(&[0, 1, 1, 2]) {
+        let a = d.random_assertion(r);
+        d.policy.push(a);
+    }
+    let (mut plan, mut policy) = (d.plan_text(), d.policy_text());
+    let which = r.below(20);
+    for _ in 0..if r.percent(20) { 2 } else { 1 } {
+        if (2..11).contains(&which) || which == 19 {
+            damage(r, &d, &mut plan);
+        }
+        if which >= 11 {
+            damage(r, &d, &mut policy);
+        }
+    }
+    (plan, policy)
+}
+
+/// A pair of the largest counts; one text of it damaged, or none.
+pub fn large(r: &mut Rng, text: Option<Text>) -> Pair {
+    let mut d = Draft::random(r, 64, 32);
+    for _ in 0..32 {
+        let a = d.random_assertion(r);
+        d.policy.push(a);
+    }
+    let (mut plan, mut policy) = (d.plan_text(), d.policy_text());
+    match text {
+        Some(Text::Plan) => damage(r, &d, &mut plan),
+        Some(Text::Policy) => damage(r, &d, &mut policy),
+        None => {}
+    }
+    (plan, policy)
+}
+
+/// A pair of which this text is too long.
+pub fn overlong(r: &mut Rng, text: Text) -> Pair {
+    let mut d = Draft::random(r, 1, 1);
+    let a = d.random_assertion(r);
+    d.policy.push(a);
+    let (mut plan, mut policy) = (d.plan_text(), d.policy_text());
+    match text {
+        Text::Plan => {
+            too_long(r, &mut plan);
+            policy.truncate(r.below(20));
+        }
+        Text::Policy => too_long(r, &mut policy),
+    }
+    (plan, policy)
+}
+
 /// More than 16,384 bytes, whatever they are.
-pub fn too_long(r: &mut Rng, text: &mut Vec<u8>) {
+fn too_long(r: &mut Rng, text: &mut Vec<u8>) {
     let length = if r.percent(80) { MAX_TEXT + 1 } else { MAX_TEXT + r.range(2, 40) };
     let filling = *r.pick(&[&b"\n"[..], b"x", b"risk=0\n", b"name=a0\nform=end\n", b"\0"]);
     if r.percent(30) {
@@ -226,9 +284,9 @@ const CORNERS: [(bool, &str, &str); 40] = [
 ];
 
 /// The pairs of texts of the corners, and those with an empty text.
-pub fn corners() -> Vec<(Vec<u8>, Vec<u8>)> {
+pub fn corners() -> Vec<Pair> {
     let texts = || (Draft::base().plan_text(), Draft::base().policy_text());
-    let mut list: Vec<(Vec<u8>, Vec<u8>)> = CORNERS
+    let mut list: Vec<Pair> = CORNERS
         .iter()
         .map(|&(in_plan, from, to)| {
             let (mut plan, mut policy) = texts();

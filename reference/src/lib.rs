@@ -12,5 +12,6 @@ pub mod read;
 pub mod replay;
 pub mod rng;
 pub mod routes;
+pub mod states;
 #[cfg(test)]
 mod tests;

@@ -9,6 +9,7 @@ use crate::plan::*;
 use crate::read::*;
 use crate::replay::{replay, Call};
 use crate::rng::Rng;
+use crate::states::*;
 
 fn base() -> Draft {
     Draft::base()

@@ -2,7 +2,7 @@
 //! corpus answer read|judge|monitor FILE: prints the reference's answers to a file of cases.
 //! corpus promise SEED N: the box promise on N accepted pairs with a list of calls each; stores nothing.
 
-use reference::damage::{corners, damage, too_long};
+use reference::damage::{corners, damaged, large, overlong, Pair};
 use reference::generate::{calls, Draft, Style};
 use reference::history::promise;
 use reference::judge::{assertion, first_broken, judge, locate, read, show, Broken, Text, Verdict};
@@ -134,62 +134,12 @@ fn due(case: &Case, text: Text, line: usize) -> &'static str {
     }
 }
 
-fn add_assertions(r: &mut Rng, d: &mut Draft, k: usize) {
-    for _ in 0..k {
-        let a = d.random_assertion(r);
-        d.policy.push(a);
-    }
-}
-
-/// A small pair of texts, nine times in ten with one to three damages; never too long.
-fn damaged(r: &mut Rng) -> Case {
-    let n = *r.pick(&[1, 2, 2, 2, 3, 3]);
-    let m = *r.pick(&[0, 1, 2, 3, 5, 31, 32]);
-    let mut d = Draft::random(r, n, m);
-    let k = *r.pick(&[0, 1, 1, 2]);
-    add_assertions(r, &mut d, k);
-    let mut case = Case { plan: d.plan_text(), policy: d.policy_text() };
-    let which = r.below(20);
-    for _ in 0..if r.percent(20) { 2 } else { 1 } {
-        if (2..11).contains(&which) || which == 19 {
-            damage(r, &d, &mut case.plan);
-        }
-        if which >= 11 {
-            damage(r, &d, &mut case.policy);
-        }
-    }
-    case
-}
-
-/// A pair of the largest counts; one text of it damaged, or none.
-fn large_case(r: &mut Rng, text: Option<Text>) -> Case {
-    let mut d = Draft::random(r, 64, 32);
-    add_assertions(r, &mut d, 32);
-    let mut case = Case { plan: d.plan_text(), policy: d.policy_text() };
-    match text {
-        Some(Text::Plan) => damage(r, &d, &mut case.plan),
-        Some(Text::Policy) => damage(r, &d, &mut case.policy),
-        None => {}
-    }
-    case
-}
-
-fn long_case(r: &mut Rng, text: Text) -> Case {
-    let mut d = Draft::random(r, 1, 1);
-    add_assertions(r, &mut d, 1);
-    let mut case = Case { plan: d.plan_text(), policy: d.policy_text() };
-    match text {
-        Text::Plan => {
-            too_long(r, &mut case.plan);
-            case.policy.truncate(r.below(20));
-        }
-        Text::Policy => too_long(r, &mut case.policy),
-    }
-    case
+fn case((plan, policy): Pair) -> Case {
+    Case { plan, policy }
 }
 
 fn corner_cases() -> Vec<Case> {
-    corners().into_iter().map(|(plan, policy)| Case { plan, policy }).collect()
+    corners().into_iter().map(case).collect()
 }
 
 /// One number for all that was read, places that stay blank included; the README says over what.
@@ -225,7 +175,7 @@ const EACH_NUMBER: usize = 20;
 fn read_corpus(r: &mut Rng, n: usize, long: usize) -> (Vec<u8>, String, Counts) {
     let mut buckets = Buckets(BTreeMap::new());
     for _ in 0..30 * n {
-        let c = damaged(r);
+        let c = case(damaged(r));
         // what has few places gets more shares
         let kind = match read(&c.plan, &c.policy) {
             Ok(_) => ("read", 0, "", r.below(6)),
@@ -240,14 +190,14 @@ fn read_corpus(r: &mut Rng, n: usize, long: usize) -> (Vec<u8>, String, Counts) 
     }
     let mut list = corner_cases();
     for text in [Text::Plan, Text::Policy] {
-        list.extend((0..long).map(|_| long_case(r, text)));
+        list.extend((0..long).map(|_| case(overlong(r, text))));
         // one byte less is not too long
-        let mut c = long_case(r, text);
+        let mut c = case(overlong(r, text));
         if text == Text::Plan { &mut c.plan } else { &mut c.policy }.truncate(MAX_TEXT);
         list.push(c);
-        list.extend((0..8).map(|_| large_case(r, Some(text))));
+        list.extend((0..8).map(|_| case(large(r, Some(text)))));
     }
-    list.extend((0..4).map(|_| large_case(r, None)));
+    list.extend((0..4).map(|_| case(large(r, None))));
     list.extend(buckets.take(n - list.len()));
     shuffle(r, &mut list);
     let (mut cases, mut stdout, mut counts) = (vec![], String::new(), Counts::new());
@@ -384,7 +334,7 @@ fn judge_corpus(r: &mut Rng, n: usize, long: usize) -> (Vec<u8>, String, Counts)
     // unread: 40 of each number of each text
     let mut unread: BTreeMap<(&str, u8), Buckets<&str>> = BTreeMap::new();
     for _ in 0..20_000 {
-        let c = damaged(r);
+        let c = case(damaged(r));
         if let Err((t, f)) = read(&c.plan, &c.policy) {
             let rows = unread.entry((t.word(), f.number)).or_insert_with(|| Buckets(BTreeMap::new()));
             rows.0.entry(due(&c, t, f.line)).or_default().push(c);
@@ -395,7 +345,7 @@ fn judge_corpus(r: &mut Rng, n: usize, long: usize) -> (Vec<u8>, String, Counts)
         list.extend(rows.take(40));
     }
     for text in [Text::Plan, Text::Policy] {
-        list.extend((0..long).map(|_| long_case(r, text)));
+        list.extend((0..long).map(|_| case(overlong(r, text))));
     }
     // the largest plans: accepted, and changed until each rule is broken
     let mut wanted: Vec<u8> = (12..=19).chain([11, 0, 0]).collect();
