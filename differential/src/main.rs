@@ -57,26 +57,26 @@ fn main() {
 /// Texts, lists of calls and states of one round.
 fn round(r: &mut Rng, tally: &mut Tally, stored: &[Draft], number: u64) -> Checked {
     for _ in 0..12 {
-        let pair = if r.percent(25) { texts::odd(r) } else { reference::damage::damaged(r) };
-        texts::check(r, tally, &pair)?;
+        let (made, pair) = texts::odd(r);
+        texts::check(r, tally, made, &pair)?;
     }
     for _ in 0..8 {
         let d = texts::neighbour(r, stored);
-        draft(r, tally, &d)?;
+        draft(r, tally, "stored ones, changed", &d)?;
     }
     for _ in 0..12 {
         let d = Draft::candidate(r);
-        draft(r, tally, &d)?;
+        draft(r, tally, "random drafts", &d)?;
     }
-    if number % 100 == 0 {
+    if number % 500 == 50 {
         large(r, tally)?;
     }
     Ok(())
 }
 
 /// A draft that reads: its texts, a list of calls if it is accepted, states over its plan in any case.
-fn draft(r: &mut Rng, tally: &mut Tally, d: &Draft) -> Checked {
-    texts::check(r, tally, &texts::pair_of(d))?;
+fn draft(r: &mut Rng, tally: &mut Tally, made: &str, d: &Draft) -> Checked {
+    texts::check(r, tally, made, &texts::pair_of(d))?;
     if first_broken(&d.plan, &d.policy).is_none() {
         lists::check(r, tally, d)?;
     }
@@ -89,8 +89,8 @@ fn draft(r: &mut Rng, tally: &mut Tally, d: &Draft) -> Checked {
 /// A draft of the largest size, and some changed from it.
 fn large(r: &mut Rng, tally: &mut Tally) -> Checked {
     let whole = Draft::large(r);
-    draft(r, tally, &whole)?;
-    for _ in 0..4 {
+    draft(r, tally, "of the largest size", &whole)?;
+    for _ in 0..3 {
         let mut d = whole.clone();
         match r.below(3) {
             0 if !d.policy.is_empty() => {
@@ -99,7 +99,7 @@ fn large(r: &mut Rng, tally: &mut Tally) -> Checked {
             }
             _ => d.change(r),
         }
-        draft(r, tally, &d)?;
+        draft(r, tally, "of the largest size", &d)?;
     }
     Ok(())
 }

@@ -10,7 +10,8 @@ use reference::machine::started;
 use reference::read::{read_plan, MAX_TEXT};
 use reference::rng::Rng;
 
-pub const PAIRS: &str = "text pairs";
+const PAIRS: &str = "text pairs, by verdict";
+const MADE: &str = "text pairs, by how they were made";
 
 pub fn expected_kinds(tally: &mut Tally) {
     tally.expect(PAIRS, "accepted");
@@ -49,16 +50,18 @@ fn at_the_limit(r: &mut Rng) -> Pair {
     (plan, policy)
 }
 
-/// A pair that is not made to be read.
-pub fn odd(r: &mut Rng) -> Pair {
-    match r.below(8) {
-        0 => (noise(r), noise(r)),
-        1 => (Draft::base().plan_text(), noise(r)),
-        2 | 3 => at_the_limit(r),
-        4 => overlong(r, Text::Plan),
-        5 => overlong(r, Text::Policy),
-        6 => r.pick(&corners()).clone(),
-        _ => damaged(r),
+/// A pair that is not made to be read, and how it was made.
+pub fn odd(r: &mut Rng) -> (&'static str, Pair) {
+    match r.below(28) {
+        0 => ("any bytes", (noise(r), noise(r))),
+        1 => ("any bytes", (Draft::base().plan_text(), noise(r))),
+        2 => ("empty", (vec![], if r.percent(50) { vec![] } else { Draft::base().policy_text() })),
+        3 => ("empty", (Draft::base().plan_text(), vec![])),
+        4 | 5 => ("16,384 or 16,385 bytes", at_the_limit(r)),
+        6 => ("too long", overlong(r, Text::Plan)),
+        7 => ("too long", overlong(r, Text::Policy)),
+        8 => ("corners of reading", r.pick(&corners()).clone()),
+        _ => ("damaged", damaged(r)),
     }
 }
 
@@ -100,7 +103,7 @@ pub fn pair_of(d: &Draft) -> Pair {
 }
 
 /// Compares on one pair.
-pub fn check(r: &mut Rng, tally: &mut Tally, (plan, policy): &Pair) -> Checked {
+pub fn check(r: &mut Rng, tally: &mut Tally, made: &str, (plan, policy): &Pair) -> Checked {
     let verdict = judge(plan, policy);
     let mut compare = || -> Checked {
         same("judge", library::judge(plan, policy), verdict_words(&verdict))?;
@@ -120,6 +123,7 @@ pub fn check(r: &mut Rng, tally: &mut Tally, (plan, policy): &Pair) -> Checked {
     };
     with_input(compare(), || texts(plan, policy))?;
     tally.add(PAIRS, &kind(&verdict), 1);
+    tally.add(MADE, made, 1);
     tally.passed += 1;
     Ok(())
 }
