@@ -20,7 +20,7 @@ pub struct Lent {
 mod raw {
     extern "C" {
         pub fn monitor_judge(plan: *const u8, plan_len: usize, policy: *const u8, policy_len: usize, verdict: *mut u32);
-        pub fn monitor_locate(plan: *const u8, plan_len: usize, policy: *const u8, policy_len: usize, part: *mut u32);
+        pub fn monitor_locate(plan: *const u8, plan_len: usize, policy: *const u8, policy_len: usize, part: *mut usize);
         pub fn monitor_start(
             plan: *const u8, plan_len: usize, policy: *const u8, policy_len: usize, verdict: *mut u32, row: *mut u32,
             place: *mut u32, serials: *mut u32, templates: *mut u8, labels: *mut u32, tags: *mut u32,
@@ -58,7 +58,7 @@ pub fn judge(plan: &[u8], policy: &[u8]) -> [u32; 5] {
     verdict
 }
 
-pub fn locate(plan: &[u8], policy: &[u8]) -> [u32; 3] {
+pub fn locate(plan: &[u8], policy: &[u8]) -> [usize; 3] {
     let mut part = [77; 3];
     unsafe { raw::monitor_locate(plan.as_ptr(), plan.len(), policy.as_ptr(), policy.len(), part.as_mut_ptr()) };
     part

@@ -108,7 +108,7 @@ pub fn check(r: &mut Rng, tally: &mut Tally, made: &str, (plan, policy): &Pair) 
     let mut compare = || -> Checked {
         same("judge", library::judge(plan, policy), verdict_words(&verdict))?;
         let (text, start, end) = locate(plan, policy);
-        same("locate", library::locate(plan, policy), [text_word(text), start as u32, end as u32])?;
+        same("locate", library::locate(plan, policy), [text_word(text) as usize, start, end])?;
         let (lent, words) = Lent::start(r, plan, policy);
         same("start's verdict", words, verdict_words(&verdict))?;
         if verdict == Verdict::Accepted {
