@@ -32,14 +32,15 @@ fn y(ms: f64) -> f64 {
 }
 
 fn axes(svg: &mut String) {
-    for power in -2..=4 {
-        let at = y(10f64.powi(power));
-        let ms = if power < 0 { format!("{}", 10f64.powi(power)) } else { format!("{}", 10u32.pow(power as u32)) };
-        writeln!(svg, r##"<path d="M60 {at:.1}H500" stroke="#ddd"/><text x="54" y="{:.1}" text-anchor="end">{ms}</text>"##, at + 4.0).unwrap();
+    for ms in ["0.01", "0.1", "1", "10", "100", "1000", "10000"] {
+        let at = y(ms.parse().unwrap_or(1.0));
+        write!(svg, r##"<path d="M60 {at:.1}H500" stroke="#ddd"/>"##).unwrap();
+        writeln!(svg, r#"<text x="54" y="{:.1}" text-anchor="end">{ms}</text>"#, at + 4.0).unwrap();
     }
     for product in [8, 32, 128, 512, 2048] {
         let at = x(product);
-        writeln!(svg, r##"<path d="M{at:.1} 30V320" stroke="#ddd"/><text x="{at:.1}" y="336" text-anchor="middle">{product}</text>"##).unwrap();
+        write!(svg, r##"<path d="M{at:.1} 30V320" stroke="#ddd"/>"##).unwrap();
+        writeln!(svg, r#"<text x="{at:.1}" y="336" text-anchor="middle">{product}</text>"#).unwrap();
     }
     svg.push_str("<text x=\"280\" y=\"354\" text-anchor=\"middle\">templates × assertions</text>\n");
     svg.push_str("<text x=\"60\" y=\"18\">ms a verdict: library (line), reference (dashed); 32 identifiers, prots that hold</text>\n");
@@ -50,19 +51,21 @@ fn line(svg: &mut String, color: &str, dashes: &str, places: impl Iterator<Item 
     writeln!(svg, r#"<path d="M{}" fill="none" stroke="{color}" stroke-width="2"{dashes}/>"#, path.join("L")).unwrap();
 }
 
-/// The plot, and the table that it shows.
+/// The plot; its figures are printed as a table.
 pub fn plot(turns: usize) -> String {
-    let mut svg = String::from("<svg xmlns=\"http://www.w3.org/2000/svg\" width=\"600\" height=\"364\" font-family=\"sans-serif\" font-size=\"12\">\n");
-    svg.push_str("<rect width=\"600\" height=\"364\" fill=\"white\"/>\n");
+    let size = "width=\"600\" height=\"364\"";
+    let mut svg = format!("<svg xmlns=\"http://www.w3.org/2000/svg\" {size} font-family=\"sans-serif\" font-size=\"12\">\n");
+    writeln!(svg, "<rect {size} fill=\"white\"/>").unwrap();
     axes(&mut svg);
-    println!("| ms a verdict, library / reference | {} |", ASSERTIONS.map(|k| format!("{k} assertions")).join(" | "));
+    println!("| ms, library / reference | {} |", ASSERTIONS.map(|k| format!("{k} assertions")).join(" | "));
     println!("|---|{}", "---|".repeat(ASSERTIONS.len()));
     for (n, color) in SIZES {
         let row = points(turns, n);
         line(&mut svg, color, "", row.iter().map(|p| (x(p.product), y(p.library))));
         line(&mut svg, color, " stroke-dasharray=\"4 3\"", row.iter().map(|p| (x(p.product), y(p.reference))));
         let end = &row[row.len() - 1];
-        writeln!(svg, r#"<text x="{:.1}" y="{:.1}" fill="{color}">{n} templates</text>"#, x(end.product) + 6.0, y(end.library) + 4.0).unwrap();
+        let (right, down) = (x(end.product) + 6.0, y(end.library) + 4.0);
+        writeln!(svg, r#"<text x="{right:.1}" y="{down:.1}" fill="{color}">{n} templates</text>"#).unwrap();
         let cells: Vec<String> = row.iter().map(|p| format!("{:.2} / {:.2}", p.library, p.reference)).collect();
         println!("| {n} templates | {} |", cells.join(" | "));
     }

@@ -69,8 +69,6 @@ pub fn table(turns: usize) {
     let mut long = plan.clone();
     long.resize(16_384, b'\n');
     row(turns, 500, "the same plan, filled up to 16,384 bytes", &long, &policy);
-    long.resize(16_385, b'\n');
-    row(turns, 5000, "16,385 bytes", &long, &policy);
     row(turns, 2000, "one line of 16,384 bytes", &[b"templates=", &[b'6'; 16_374][..]].concat(), &policy);
     let mut more = large.policy_text();
     more.resize(16_384, b'\n');

@@ -1,5 +1,5 @@
-//! bench [SVG]: the proved library against the reference (judge, reading) and three baselines (the monitor's calls), as
-//! Markdown tables; the plot of the judge's growth is written to SVG, if that is named. `bench quick` is a short try.
+//! bench [quick] [SVG]: the proved library against the reference (judge, reading) and the baselines (the monitor's calls),
+//! as Markdown tables; the plot of the judge's growth is written to SVG, if that is named. `quick` is a short try.
 
 mod borrowed;
 mod calls;
@@ -13,18 +13,22 @@ mod thin;
 mod tuned;
 mod value;
 
+const LEGEND: &str = "core: monitor_run on lent arrays. by value: monitor_run_values. (a) Rust that hands the State \
+through every function by value, (a') only through the operations; (b) Rust over `&mut State`; (c) the same hand-tuned: \
+rows of M tags, no early exit. Live: while stepping one or two less than named, in mixed lists a third more.";
+
 fn main() {
-    let svg = std::env::args().nth(1);
-    let quick = svg.as_deref() == Some("quick");
+    let (quick, svg): (Vec<String>, Vec<String>) = std::env::args().skip(1).partition(|word| word == "quick");
+    let quick = !quick.is_empty();
     let turns = if quick { 1 } else { 7 };
     let (calls, mixed) = if quick { (5_000, 20_000) } else { (100_000, 1_000_000) };
-    println!("Microseconds a verdict.\n");
+    println!("Thread CPU time, medians of {turns} interleaved turns, equal checksums asserted. Microseconds a verdict:\n");
     judging::table(turns);
-    println!("\nHow the judge's time grows.\n");
+    println!("\nHow the judge's time grows (docs/judge-growth.svg): 32 identifiers, every template a `both`, prots that hold.\n");
     let plot = growth::plot(turns);
-    if let (Some(path), false) = (svg, quick) {
-        std::fs::write(&path, plot).unwrap_or_else(|e| panic!("{path}: {e}"));
+    if let Some(path) = svg.first() {
+        std::fs::write(path, plot).unwrap_or_else(|e| panic!("{path}: {e}"));
     }
-    println!("\nNanoseconds a call.\n");
+    println!("\nNanoseconds a call, {calls} calls of one kind, {mixed} mixed; by value a tenth of them. {LEGEND}\n");
     monitor::table(turns, calls, mixed);
 }

@@ -95,7 +95,7 @@ fn row(turns: usize, l: &List) {
 
 /// The table; `calls` of one kind, `mixed` calls in a mixed list.
 pub fn table(turns: usize, calls: usize, mixed: usize) {
-    println!("| calls | M | live | core | (b) `&mut` | (c) tuned | core/(b) | core/(c) | by value | (a) by value | (a') thin | /(a) | /(a') |");
+    println!("| calls | M | live | core | (b) | (c) | core/(b) | core/(c) | by value | (a) | (a') | by value/(a) | by value/(a') |");
     println!("|---|---|---|---|---|---|---|---|---|---|---|---|---|");
     for name in ["step", "send", "raise"] {
         for m in [1, 8, 32] {
