@@ -315,7 +315,7 @@ fn near_misses_are_near() {
 #[test]
 fn hand_made_states() {
     let mut r = Rng::new(4);
-    let mut seen = [0; 30];
+    let (mut seen, mut ways) = ([0; 30], [0; WAYS.len()]);
     for _ in 0..4_000 {
         let d = Draft::candidate(&mut r);
         let mut s = state(&mut r, &d.plan);
@@ -330,9 +330,10 @@ fn hand_made_states() {
             assert!(!machine::bad(&s));
         }
         let call = any_call(&mut r, &s);
-        spoil(&mut r, &mut s);
+        ways[spoil(&mut r, &mut s)] += 1;
         assert_eq!(call.run(&mut s), Refused(20));
     }
+    assert!(ways.iter().all(|&count| count > 20), "{ways:?}");
     assert!(seen[20] == 0 && seen[21..].iter().all(|&count| count > 20), "{seen:?}");
 }
 
