@@ -27,10 +27,11 @@ struct Taken {
     live: usize,
 }
 
-// What a list of calls leaves beside the arrays.
+// What a list of calls leaves beside the arrays, and how many calls were run.
 pub struct Place {
     pub next: u32,
     pub live: usize,
+    pub count: usize,
 }
 
 // 0 done, 1 delivered, 2 held, and a refusal's own number.
@@ -96,7 +97,15 @@ fn take_call<'a>(
     }
 }
 
-// The first n calls, in order.
+// How many calls so many words hold, and no more than there are places for their answers.
+fn call_count(words: usize, places: usize) -> usize
+    ensures { λ r. ⌜ (r ≡ min (words / 3) places) × (r * 3 ≤ words) × (r ≤ places) ⌝ }
+{
+    let calls = words / 3;
+    if calls < places { calls } else { places }
+}
+
+// The calls in order, as many as there are words and places for.
 pub fn run_calls<'a>(
     plan: Plan,
     next: u32,
@@ -106,15 +115,14 @@ pub fn run_calls<'a>(
     labels: &'a mut [u32; 128],
     tags: &'a mut [u32; 4096],
     calls: &'a [u32],
-    n: usize,
     answers: &'a mut [u8],
 ) -> Place
-    requires { ⌜ (n * 3 ≤ length (now calls)) × (n ≤ length (now answers)) ⌝ }
     ensures { λ r.
         let c = cells (now (serials .entry)) (now (templates .entry)) (now (labels .entry)) (now (tags .entry)) in
         let d = cells (now (serials .exit)) (now (templates .exit)) (now (labels .exit)) (now (tags .exit)) in
-        ⌜ Played (machineFrom plan next live c) n (now (calls .entry)) (now (answers .entry)) (machineFrom plan (r .next) (r .live) d) (now (answers .exit)) ⌝ }
+        ⌜ (r .count ≡ min (length (now (calls .entry)) / 3) (length (now (answers .entry)))) × Played (machineFrom plan next live c) (r .count) (now (calls .entry)) (now (answers .entry)) (machineFrom plan (r .next) (r .live) d) (now (answers .exit)) ⌝ }
 {
+    let n = call_count(calls.len(), answers.len());
     let mut z = next;
     let mut l = live;
     let mut i: usize = 0;
@@ -136,7 +144,11 @@ pub fn run_calls<'a>(
         answers[i] = r.code;
         i += 1;
     }
-    Place { next: z, live: l }
+    Place {
+        next: z,
+        live: l,
+        count: n,
+    }
 }
 
 // What replay hands back: the judge's verdict, how many calls were played, and the state after them, blank where the
@@ -145,14 +157,6 @@ pub struct Replayed {
     pub verdict: Verdict,
     pub count: usize,
     pub state: State,
-}
-
-// How many calls so many words hold, and no more than there are places for their answers.
-fn call_count(words: usize, places: usize) -> usize
-    ensures { λ r. ⌜ r ≡ min (words / 3) places ⌝ }
-{
-    let calls = words / 3;
-    if calls < places { calls } else { places }
 }
 
 // Both texts judged, the box started, and the calls run through it, the answers written to the row.
@@ -174,7 +178,6 @@ pub fn replay<'a>(
             state: state,
         };
     }
-    let n = call_count(calls.len(), answers.len());
     let read = state.plan;
     let mut serials = state.serials;
     let mut templates = state.templates;
@@ -189,7 +192,6 @@ pub fn replay<'a>(
         &mut labels,
         &mut tags,
         calls,
-        n,
         answers,
     );
     let after = State {
@@ -203,7 +205,7 @@ pub fn replay<'a>(
     };
     Replayed {
         verdict: verdict,
-        count: n,
+        count: r.count,
         state: after,
     }
 }

@@ -16,9 +16,6 @@ returns : tie.Need-returns
 returns c =
     replays-not _ _ _ _ _ _ (c .before .before .before .start .ensures) _ (c .before .is-accepted .ensures) (c .if1 .taken)
 
-call-count-requires : tie.Need-call-count-requires
-call-count-requires c κs = search needs
-
 run-calls-requires : tie.Need-run-calls-requires
 run-calls-requires c κs = search needs
 
@@ -29,10 +26,10 @@ returns-2 : tie.Need-returns-2
 unfolding machineOf
 returns-2 c =
     let ran = c .before .before in
-    let counted = ran .before .before .before .before .before .before .before .before .before .before .before in
-    let tested = counted .before .before in
-    replays-so _ _ _ _ _ _ (tested .before .before .start .ensures) _ (tested .is-accepted .ensures) (counted .before .if1 .left)
-    _ (counted .call-count .ensures) _ _ (ran .run-calls .ensures)
+    let tested = ran .before .before .before .before .before .before .before .before .before .before .before in
+    let played = ran .run-calls .ensures in
+    replays-so _ _ _ _ _ _ (tested .before .before .before .start .ensures) _ (tested .before .is-accepted .ensures) (tested .if1 .left)
+    _ (played .0) _ _ (played .1)
 
 pub replay-spec : {M : Type 1} → statement M
 replay-spec =
@@ -41,7 +38,6 @@ replay-spec =
     start-requires
     is-accepted-requires
     returns
-    call-count-requires
     run-calls-requires
     same-length
     returns-2)

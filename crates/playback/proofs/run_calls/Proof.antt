@@ -9,13 +9,16 @@ use Rattle.playback.proofs.run_calls.Statement.{statement}
 use Rattle.playback.proofs.run_calls.Tie as tie
 
 abbrev Inv-loop : tie.InvT-loop
-Inv-loop plan next live serials₀ templates₀ labels₀ tags₀ calls n answers₀ z₀ l₀ i₀ serials templates labels tags answers z l i =
+Inv-loop plan next live serials₀ templates₀ labels₀ tags₀ calls answers₀ n z₀ l₀ i₀ serials templates labels tags answers z l i =
     Stands (machineFrom plan next live (cells serials₀ templates₀ labels₀ tags₀)) (callAt calls) n i answers₀
     (machineFrom plan z l (cells serials templates labels tags)) answers
 
 abbrev μ-loop : tie.MeasureT-loop
-μ-loop plan next live serials₀ templates₀ labels₀ tags₀ calls n answers₀ z₀ l₀ i₀ serials templates labels tags answers z l i =
+μ-loop plan next live serials₀ templates₀ labels₀ tags₀ calls answers₀ n z₀ l₀ i₀ serials templates labels tags answers z l i =
     n - i
+
+call-count-requires : tie.Need-call-count-requires Inv-loop μ-loop
+call-count-requires c κs = search needs
 
 loop-holds : tie.Need-loop-holds Inv-loop μ-loop
 loop-holds c = stands-none _ _ _ _
@@ -72,7 +75,7 @@ same-length : tie.Need-same-length Inv-loop μ-loop
 same-length c = search needs
 
 returns : tie.Need-returns Inv-loop μ-loop
-returns c = search played
+returns c = (search needs, search played)
 
 pub run-calls-spec : {M : Type 1} → statement M
 run-calls-spec =
@@ -80,6 +83,7 @@ run-calls-spec =
     (tie.spec
     Inv-loop
     μ-loop
+    call-count-requires
     loop-holds
     mul-take-call
     mul-take-call-2
