@@ -345,7 +345,11 @@ pub enum Style {
 
 /// A list of calls from the started machine on, chosen with the state in view.
 pub fn calls(r: &mut Rng, plan: &Plan, count: usize, style: Style) -> Vec<Call> {
-    let mut s = machine::started(*plan);
+    calls_from(r, machine::started(*plan), count, style)
+}
+
+/// The same from any state on.
+pub fn calls_from(r: &mut Rng, mut s: State, count: usize, style: Style) -> Vec<Call> {
     let mut list = vec![];
     while list.len() < count {
         let call = next_call(r, &s, style);

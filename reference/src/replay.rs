@@ -98,10 +98,16 @@ pub fn dump(s: &State) -> String {
 }
 
 pub fn replay(plan: &[u8], policy: &[u8], calls: &[u8]) -> String {
+    replay_at(plan, policy, calls, 1)
+}
+
+/// The same from the started state with another next serial.
+pub fn replay_at(plan: &[u8], policy: &[u8], calls: &[u8], next: u32) -> String {
     let mut s = match machine::start(plan, policy) {
         Err(verdict) => return printed(&verdict),
         Ok(s) => s,
     };
+    s.next = u64::from(next);
     let (list, unread) = read_calls(calls);
     let mut out: String = list.iter().map(|c| answer_line(c.run(&mut s))).collect();
     match unread {

@@ -1,9 +1,10 @@
-// Runs stored lists of calls on stored pairs of texts: for each what replay prints.
+// Runs stored lists of calls on stored pairs of texts: for each what replay prints. A case names the next serial that
+// the box starts with: 1, as every started box has it, or one so late that serials run out.
 
 // One case of the file; false where there is none left.
 fn one_case(file: i32) -> bool {
-    let mut header: [u8; 14] = [0; 14];
-    if corpus::read_text(file, &mut header, 14) < 14 {
+    let mut header: [u8; 22] = [0; 22];
+    if corpus::read_text(file, &mut header, 22) < 22 {
         return false;
     }
     let mut plan = io::large_buffer();
@@ -24,7 +25,14 @@ fn one_case(file: i32) -> bool {
         &mut calls,
         corpus::length_of(header[10], header[11], header[12], header[13]),
     );
-    transcript::print_replay(&plan[0..n], &policy[0..m], &calls[0..c]);
+    let high = corpus::length_of(header[14], header[15], header[16], header[17]) as u32;
+    let low = corpus::length_of(header[18], header[19], header[20], header[21]) as u32;
+    let next = high * 65536 + low;
+    if next == 1 {
+        transcript::print_replay(&plan[0..n], &policy[0..m], &calls[0..c]);
+    } else {
+        transcript::print_replay_at(&plan[0..n], &policy[0..m], &calls[0..c], next);
+    }
     true
 }
 

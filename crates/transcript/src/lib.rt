@@ -150,3 +150,44 @@ pub fn print_replay<'a>(plan: &'a [u8], policy: &'a [u8], text: &'a [u8]) {
         report::print_verdict(verdict);
     }
 }
+
+// The same from a state that no texts start: the started one with another next serial.
+pub fn print_replay_at<'a>(plan: &'a [u8], policy: &'a [u8], text: &'a [u8], next: u32) {
+    let mut words = word_room();
+    let script = script_of(text, &mut words);
+    let n = script.count;
+    let mut answers = answer_room();
+    let started = monitor::start(plan, policy);
+    let verdict = started.verdict;
+    let state = started.state;
+    let read = state.plan;
+    let mut serials = state.serials;
+    let mut templates = state.templates;
+    let mut labels = state.labels;
+    let mut tags = state.tags;
+    let r = playback::run_calls(
+        read,
+        next,
+        state.live,
+        &mut serials,
+        &mut templates,
+        &mut labels,
+        &mut tags,
+        &words[0..n],
+        &mut answers,
+    );
+    let after = State {
+        plan: read,
+        next: r.next,
+        live: r.live,
+        serials: serials,
+        templates: templates,
+        labels: labels,
+        tags: tags,
+    };
+    if let Verdict::Accepted = verdict {
+        print_run(&answers, r.count, after, script.fault, line_of(text, n));
+    } else {
+        report::print_verdict(verdict);
+    }
+}

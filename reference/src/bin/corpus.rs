@@ -3,14 +3,14 @@
 //! corpus promise SEED N: the box promise on N accepted pairs with a list of calls each; stores nothing.
 
 use reference::damage::{corners, damaged, large, overlong, Pair};
-use reference::generate::{calls, Draft, Style};
+use reference::generate::{calls, calls_from, Draft, Style};
 use reference::history::promise;
 use reference::judge::{assertion, first_broken, judge, locate, read, show, Broken, Text, Verdict};
-use reference::machine::Answer;
+use reference::machine::{started, Answer};
 use reference::near;
 use reference::plan::{has, Assertion, Form, Kind, Plan};
 use reference::read::MAX_TEXT;
-use reference::replay::{answer_line, dump, read_calls, replay};
+use reference::replay::{answer_line, dump, read_calls, replay_at};
 use reference::rng::Rng;
 use reference::routes::{joined, search};
 use std::collections::BTreeMap;
@@ -75,13 +75,13 @@ fn answer(kind: &str, file: &str) {
             usize::from_str_radix(std::str::from_utf8(head).expect("hex"), 16).expect("hex")
         };
         let (plan, policy) = (hex(4), hex(4));
-        let calls = if kind == "monitor" { hex(6) } else { 0 };
+        let (calls, next) = if kind == "monitor" { (hex(6), hex(8) as u32) } else { (0, 1) };
         let c = Case { plan: rest[..plan].to_vec(), policy: rest[plan..plan + policy].to_vec() };
         let calls = &rest[plan + policy..plan + policy + calls];
         match kind {
             "read" => out += &(read_line(&c) + "\n"),
             "judge" => out += &(judge_line(&c) + "\n"),
-            "monitor" => out += &replay(&c.plan, &c.policy, calls),
+            "monitor" => out += &replay_at(&c.plan, &c.policy, calls, next),
             _ => usage(),
         }
         rest = &rest[plan + policy + calls.len()..];
@@ -454,17 +454,50 @@ fn monitor_corpus(r: &mut Rng, n: usize) -> (Vec<u8>, String, Counts) {
         } else {
             expected += &dump(&s);
         }
-        assert_eq!(replay(&c.plan, &c.policy, text.as_bytes()), expected);
+        assert_eq!(replay_at(&c.plan, &c.policy, text.as_bytes(), 1), expected);
         assert!(read_calls(text.as_bytes()).0 == list);
-        cases.extend(format!("{:04x}{:04x}{:06x}", c.plan.len(), c.policy.len(), text.len()).bytes());
-        cases.extend([&c.plan[..], &c.policy, text.as_bytes()].concat());
+        write_run(&mut cases, &c, &text, 1);
         stdout += &expected;
         answers.iter().for_each(|&a| count(&mut counts, kind_of(a)));
         d.policy.iter().for_each(|a| count(&mut counts, format!("assertions {:?}", a.kind)));
         count(&mut counts, format!("lists {style:?}"));
         made += 1;
     }
+    for late in 0..LATE {
+        let (c, text, next, answers) = late_case(r, late);
+        write_run(&mut cases, &c, &text, next);
+        stdout += &replay_at(&c.plan, &c.policy, text.as_bytes(), next);
+        answers.iter().for_each(|&a| count(&mut counts, kind_of(a)));
+        count(&mut counts, "lists from a late next serial");
+    }
     (cases, stdout, counts)
+}
+
+fn write_run(out: &mut Vec<u8>, c: &Case, text: &str, next: u32) {
+    out.extend(format!("{:04x}{:04x}{:06x}{next:08x}", c.plan.len(), c.policy.len(), text.len()).bytes());
+    out.extend([&c.plan[..], &c.policy, text.as_bytes()].concat());
+}
+
+/// How many lists begin at a next serial near the last, so that 24 is answered.
+const LATE: usize = 20;
+
+/// A list whose serials run out: the calls are drawn as they come, from the state with that next serial.
+fn late_case(r: &mut Rng, late: usize) -> (Case, String, u32, Vec<Answer>) {
+    loop {
+        let d = Draft::candidate(r);
+        if first_broken(&d.plan, &d.policy).is_some() {
+            continue;
+        }
+        let next = u32::MAX - late as u32;
+        let mut s = started(d.plan);
+        s.next = u64::from(next);
+        let list = calls_from(r, s, 60, Style::Normal);
+        let answers: Vec<Answer> = list.iter().map(|c| c.run(&mut s)).collect();
+        if answers.iter().filter(|&&a| a == Answer::Refused(24)).count() >= 2 {
+            let text = list.iter().map(|c| c.text()).collect();
+            return (Case { plan: d.plan_text(), policy: d.policy_text() }, text, next, answers);
+        }
+    }
 }
 
 /// The promise on many lists, and how often it breaks where the judge says broken (the checker can say no).
