@@ -302,3 +302,45 @@ pub fn corners() -> Vec<Pair> {
     list.push((vec![], vec![]));
     list
 }
+
+/// Bytes next to those that names, numbers and masks are made of, and some that end a line elsewhere.
+const BESIDE: &[u8] = b"/:@AFGZ[`g{ \t\r\0\x80\xff";
+
+/// One line in each way that spoils its layout or nearly does: its last byte, what stands around its field and its key,
+/// and the line as a whole.
+fn spoil(text: &[u8], start: usize, end: usize) -> Vec<Vec<u8>> {
+    let line = &text[start..end];
+    let equals = start + key(line).len();
+    let with = |from: usize, to: usize, new: &[u8]| [&text[..from], new, &text[to..]].concat();
+    let mut list = vec![];
+    for b in BESIDE {
+        list.push(with(end - 1, end, &[*b]));
+        list.push(with(end, end, &[*b]));
+    }
+    list.push(with(end - 1, end, b""));
+    list.push(with(end, end, &line[line.len() - 1..]));
+    list.push(with(end, end + 1, b""));
+    list.push(with(start, end + 1, b""));
+    list.push(with(start, start, &[line, b"\n"].concat()));
+    list.push(with(start, start, b"\n"));
+    list.push(with(start, start, b" "));
+    list.push(with(start, start + 1, &line[..1].to_ascii_uppercase()));
+    list.push(with(equals, equals + 1, b":"));
+    list.push(with(equals, equals + 1, b""));
+    list.push(with(equals + 1, equals + 1, b" "));
+    list.push(with(equals + 1, equals + 1, b"0"));
+    list
+}
+
+/// The base texts with the last line of each kind spoiled, one way at a time.
+pub fn sweep() -> Vec<(Vec<u8>, Vec<u8>)> {
+    let (plan, policy) = (Draft::base().plan_text(), Draft::base().policy_text());
+    let spoiled = |text: &[u8]| -> Vec<Vec<u8>> {
+        let all = lines(text);
+        let last = |i: usize| (i + 1..all.len()).all(|j| key(&text[all[j].0..all[j].1]) != key(&text[all[i].0..all[i].1]));
+        (0..all.len()).filter(|&i| last(i)).flat_map(|i| spoil(text, all[i].0, all[i].1)).collect()
+    };
+    let of_plan = spoiled(&plan).into_iter().map(|p| (p, policy.clone()));
+    let of_policy = spoiled(&policy).into_iter().map(|p| (plan.clone(), p));
+    of_plan.chain(of_policy).collect()
+}

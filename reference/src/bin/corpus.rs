@@ -2,7 +2,7 @@
 //! corpus answer read|judge|monitor FILE: prints the reference's answers to a file of cases.
 //! corpus promise SEED N: the box promise on N accepted pairs with a list of calls each; stores nothing.
 
-use reference::damage::{corners, damaged, large, overlong, Pair};
+use reference::damage::{corners, damaged, large, overlong, sweep, Pair};
 use reference::generate::{calls, calls_from, Draft, Style};
 use reference::history::promise;
 use reference::judge::{assertion, first_broken, judge, locate, read, show, Broken, Text, Verdict};
@@ -189,6 +189,7 @@ fn read_corpus(r: &mut Rng, n: usize, long: usize) -> (Vec<u8>, String, Counts) 
         buckets.0.entry(kind).or_insert_with(Vec::new).push(c);
     }
     let mut list = corner_cases();
+    list.extend(sweep().into_iter().map(case));
     for text in [Text::Plan, Text::Policy] {
         list.extend((0..long).map(|_| case(overlong(r, text))));
         // one byte less is not too long
