@@ -1,6 +1,6 @@
 -- Laws of `every` and `any`: the last number of a range, what a range tells of one number and back, and the turns of
 -- a loop that counts up. Such a loop keeps `every i p ≡ true` or `any i p ≡ false`, or gathers `every i p`.
-use Prim.Native.Nat.{ℕ, zero, suc, _+_, _*_, _≤_, _<_, suc-le-suc}
+use Prim.Native.Nat.{ℕ, zero, suc, _+_, _*_, _≤_, _<_, suc-le-suc, min}
 use mathlib.Core.Path.{_≡_, refl, sym, ap, ap₂, _∙_, subst, fun-ext}
 use mathlib.Core.Bool.{Bool, true, false, not, _&&_, _||_, and-true, and-assoc, or-false}
 use mathlib.Core.Logic.{⊎-elim}
@@ -8,7 +8,7 @@ use native.Mathlib.Nat.{not-suc-le-zero, le-of-suc-le-suc, zero-lt-suc, zero-add
 use native.Mathlib.Numerals.{add-one}
 use native.Mathlib.Omega.{arith}
 use Rattle.lists.specs.Numbers.{every, any}
-use Rattle.lists.proofs.Tests.{and-left, and-right, and-of, or-left, or-right, or-cases, fails, passes-fails, same-test}
+use Rattle.lists.proofs.Tests.{and-left, and-right, and-of, or-left, or-right, or-cases, fails, passes-fails, same-test, lt-or-le}
 
 -- ---- `every`: a range and its numbers
 
@@ -84,6 +84,13 @@ every-rows (suc n) k p =
   where
     row : (r i : ℕ) → suc r * k + i ≡ k + (r * k + i)
     row r i = ap (λ (x : ℕ). x + i) (suc-mul r k ∙ add-comm (r * k) k) ∙ add-assoc k (r * k) i
+
+-- A range cut at k, where nothing from k on fails.
+pub every-capped : (n k : ℕ) (p : ℕ → Bool) → ((i : ℕ) → k ≤ i → p i ≡ true) → every (min n k) p ≡ every n p
+every-capped n k p past =
+    same-test (every (min n k) p) (every n p)
+    (λ e. every-of n p (λ i h. ⊎-elim (λ l. every-at (min n k) p e i (omega arith)) (past i) (lt-or-le i k)))
+    (every-fewer (min n k) n p (omega arith))
 
 -- ---- `every`: the turns of a loop (`every-none` at its start)
 
@@ -167,6 +174,15 @@ unfolding any
 any-ext zero p q e = refl
 any-ext (suc n) p q e =
     ap₂ _||_ (e zero (zero-lt-suc n)) (any-ext n (λ i. p (suc i)) (λ i. q (suc i)) (λ i h. e (suc i) (suc-le-suc h)))
+
+-- A range cut at k, where nothing from k on passes.
+pub any-capped : (n k : ℕ) (p : ℕ → Bool) → ((i : ℕ) → k ≤ i → p i ≡ false) → any (min n k) p ≡ any n p
+any-capped n k p past =
+    same-test (any (min n k) p) (any n p)
+    (λ e. let r = any-from (min n k) p e in any-to n p (r .0) (omega (arith, r .1)) (r .2))
+    (λ e. let r = any-from n p e in
+    ⊎-elim (λ l. any-to (min n k) p (r .0) (omega (arith, r .1)) (r .2)) (λ g. absurd (passes-fails (p (r .0)) (r .2) (past (r .0) g)))
+    (lt-or-le (r .0) k))
 
 -- ---- `any`: the turns of a loop (`any-none` at its start)
 

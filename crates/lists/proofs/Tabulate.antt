@@ -1,12 +1,16 @@
--- Laws of `tabulate` and of `all`: length, elements, the last element, and what is true of each element.
-use Prim.Native.Nat.{ℕ, zero, suc, _≤_, _<_, suc-le-suc}
+-- Laws of `tabulate` and of `all`: length, elements, the last element, and what is true of each element; and a list that
+-- is filled from its front.
+use Prim.Native.Nat.{ℕ, zero, suc, _+_, _≤_, _<_, suc-le-suc}
 use mathlib.Core.Path.{_≡_, refl, sym, ap, ap₂, _∙_, subst}
 use mathlib.Core.Bool.{Bool, _&&_}
+use mathlib.Core.Logic.{⊎-elim}
 use mathlib.Core.List.{List, [], _∷_, _++_, map}
 use native.Mathlib.Nat.{not-suc-le-zero, le-of-suc-le-suc, zero-lt-suc}
-use lib.ListN.{length, getD, List·getD-eq-default}
-use lib.Seq.{ext-getD}
+use native.Mathlib.Omega.{arith}
+use lib.ListN.{length, getD, set, List·getD-eq-default}
+use lib.Seq.{ext-getD, getD-set-same, getD-set-other}
 use Rattle.lists.specs.Numbers.{every, tabulate, all}
+use Rattle.lists.proofs.Tests.{lt-or-le}
 
 module _ {A : Type 0} where
   pub length-tabulate : (n : ℕ) (f : ℕ → A) → length (tabulate n f) ≡ n
@@ -57,3 +61,16 @@ pub map-tabulate : {A B : Type 0} (h : A → B) (n : ℕ) (f : ℕ → A) → ma
 unfolding tabulate
 map-tabulate h zero f = refl
 map-tabulate h (suc n) f = ap (λ l. h (f zero) ∷ l) (map-tabulate h n (λ i. f (suc i)))
+
+-- ---- a list that is filled from its front
+
+pub filled-more : (f : ℕ → ℕ) (xs : List ℕ) (i v : ℕ) → i < length xs → v ≡ f i → ((j : ℕ) → j < i → getD xs j 0 ≡ f j)
+    → (j : ℕ) → j < i + 1 → getD (set xs i v) j 0 ≡ f j
+filled-more f xs i v l q e j h =
+    ⊎-elim (λ k. getD-set-other xs i j v 0 (λ r. omega arith) ∙ e j k)
+    (λ k. let r : j ≡ i = omega arith in ap (λ (k : ℕ). getD (set xs i v) k 0) r ∙ getD-set-same xs i v 0 l ∙ q ∙ ap f (sym r)) (lt-or-le j i)
+
+pub filled-all : (f : ℕ → ℕ) (xs : List ℕ) (n : ℕ) → length xs ≡ n → ((j : ℕ) → j < n → getD xs j 0 ≡ f j) → xs ≡ tabulate n f
+filled-all f xs n q e =
+    ext-getD 0 xs (tabulate n f) (q ∙ sym (length-tabulate n f))
+    (λ i h. let h′ : i < n = omega arith in e i h′ ∙ sym (getD-tabulate n f i 0 h′))

@@ -14,7 +14,7 @@ use Rattle.machine.specs.declared.Answer.the-variants.{Done}
 use Rattle.machine.specs.Machine.{Machine, Outcome, boxLimits, Call, step, send, raise, lower, run}
 use Rattle.machine.specs.State.{Cells, machineFrom}
 use Rattle.population.specs.Lent.{outcomeFrom, Did}
-use Rattle.population.proofs.Loops.{filled-more}
+use Rattle.lists.proofs.Tabulate.{filled-more}
 use Rattle.promise.specs.Replay.{machineAfter, answers, callOf, callsIn, codeOf}
 use Rattle.playback.specs.Taking.{Took}
 use Rattle.playback.specs.Playback.{Played}

@@ -1,4 +1,4 @@
--- The turns of the loops that write: `shifted`, `written`, and a list that is filled from its front.
+-- The turns of the loops that write: `shifted` and `written`.
 use Prim.Native.Nat.{ℕ, _+_, _-_, _≤_, _<_}
 use mathlib.Core.Path.{_≡_, sym, ap, _∙_}
 use mathlib.Core.Bool.{and-false}
@@ -6,12 +6,10 @@ use mathlib.Core.Logic.{⊎-elim}
 use mathlib.Core.List.{List}
 use native.Mathlib.Omega.{arith}
 use lib.ListN.{length, getD, set}
-use lib.Seq.{getD-set-same, getD-set-other, ext-getD}
+use lib.Seq.{getD-set-same, getD-set-other}
 use lib.Dec.{leb}
 use borrow.Author.Tests.{lt-ltb, le-ltb, le-leb, lt-leb}
-use Rattle.lists.specs.Numbers.{tabulate}
 use Rattle.lists.proofs.Tests.{lt-or-le}
-use Rattle.lists.proofs.Tabulate.{length-tabulate, getD-tabulate}
 use Rattle.population.specs.Arrays.{shifted, written}
 
 -- ---- `shifted`
@@ -95,16 +93,3 @@ written-more xs₀ xs from i f v l q e j =
     here r =
         ap (λ (k : ℕ). getD (set xs (from + i) v) k 0) r ∙ getD-set-same xs (from + i) v 0 l ∙ q
         ∙ ap f (omega arith) ∙ sym (written-in xs₀ from (i + 1) f j (omega arith) (omega arith))
-
--- ---- a list that is filled from its front
-
-pub filled-more : (f : ℕ → ℕ) (xs : List ℕ) (i v : ℕ) → i < length xs → v ≡ f i → ((j : ℕ) → j < i → getD xs j 0 ≡ f j)
-    → (j : ℕ) → j < i + 1 → getD (set xs i v) j 0 ≡ f j
-filled-more f xs i v l q e j h =
-    ⊎-elim (λ k. getD-set-other xs i j v 0 (λ r. omega arith) ∙ e j k)
-    (λ k. let r : j ≡ i = omega arith in ap (λ (k : ℕ). getD (set xs i v) k 0) r ∙ getD-set-same xs i v 0 l ∙ q ∙ ap f (sym r)) (lt-or-le j i)
-
-pub filled-all : (f : ℕ → ℕ) (xs : List ℕ) (n : ℕ) → length xs ≡ n → ((j : ℕ) → j < n → getD xs j 0 ≡ f j) → xs ≡ tabulate n f
-filled-all f xs n q e =
-    ext-getD 0 xs (tabulate n f) (q ∙ sym (length-tabulate n f))
-    (λ i h. let h′ : i < n = omega arith in e i h′ ∙ sym (getD-tabulate n f i 0 h′))

@@ -5,7 +5,7 @@ use native.Mathlib.Omega.{arith}
 use lib.ListN.{getD, length, length-set}
 use borrow.Author.Count.{below-none}
 use borrow.Author.Needs.{needs}
-use Rattle.population.proofs.Loops.{filled-more, filled-all}
+use Rattle.lists.proofs.Tabulate.{filled-more, filled-all}
 use Rattle.population.proofs.copy_row.Statement.{statement}
 use Rattle.population.proofs.copy_row.Tie as tie
 
