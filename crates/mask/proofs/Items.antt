@@ -1,17 +1,18 @@
 -- What is in a mask that is made from others, item by item, and over every width.
-use Prim.Native.Nat.{ℕ, zero, suc, _-_, _/_, _%_, _^_, _<_, min}
+use Prim.Native.Nat.{ℕ, zero, suc, _-_, _/_, _%_, _^_, _≤_, _<_, min}
 use mathlib.Core.Path.{_≡_, refl, sym, ap, ap₂, _∙_}
-use mathlib.Core.Bool.{Bool, true, false, not, _&&_, _||_}
+use mathlib.Core.Bool.{Bool, true, false, not, _&&_, _||_, cond}
 use mathlib.Core.Logic.{_⊎_, inl, inr, ⊎-elim}
 use native.Mathlib.Nat.{pow-succ', pow-suc, div-div-eq-div-mul, div-one, zero-div, div-eq-of-lt, mul-mod-left, mul-div-cancel, zero-lt-suc}
 use native.Mathlib.Omega.{arith}
 use lib.Dec.{eqb, eqb·zero-suc, eqb·suc-zero, eqb·suc-suc}
 use lib.Pow.{pow-lt}
 use lib.Bits.{bitAnd, bitOr, and-step, and-shr, or-shr, and-le-l, or-lt}
-use borrow.Author.Tests.{eqb-true}
+use borrow.Author.Tests.{eqb-true, lt-ltb, le-ltb}
 use Rattle.lists.proofs.Tests.{or-left, or-right, or-cases}
 use Rattle.lists.proofs.Put.{eqb-self}
 use Rattle.mask.specs.Mask.{has, without, plus}
+use Rattle.mask.specs.Sets.{plusBelow}
 use Rattle.mask.proofs.Digits.{isOne, isOne-max, isOne-min, isOne-less, digit-lt, or-digit, and-digit}
 
 -- Item 0 is the lowest digit,
@@ -94,3 +95,12 @@ plus-cases m i j e = ⊎-elim inl (λ q. inr (eqb-true j i q)) (or-cases (has j 
 pub plus-lt : (k m i : ℕ) → m < 2 ^ k → i < k → plus m i < 2 ^ k
 unfolding plus
 plus-lt k m i h l = or-lt k m (2 ^ i) h (pow-lt l)
+
+-- Where an item is below the width it is added, and elsewhere nothing is.
+pub plus-below : (k m i : ℕ) → i < k → plusBelow k m i ≡ plus m i
+unfolding plusBelow
+plus-below k m i l = ap (λ (b : Bool). cond b (plus m i) m) (lt-ltb i k l)
+
+pub plus-past : (k m i : ℕ) → k ≤ i → plusBelow k m i ≡ m
+unfolding plusBelow
+plus-past k m i h = ap (λ (b : Bool). cond b (plus m i) m) (le-ltb i k h)

@@ -1,13 +1,18 @@
 -- Masks as sets: what contracts of crate mask name besides Mask.antt.
 -- Not to be believed: nothing that document 01 says is said with these.
 use Prim.Native.Nat.{ℕ, zero, suc, _+_, _/_, _%_}
-use mathlib.Core.Bool.{Bool, not, _||_}
+use mathlib.Core.Bool.{Bool, not, cond, _||_}
+use lib.Dec.{ltb}
 use Rattle.lists.specs.Numbers.{every}
-use Rattle.mask.specs.Mask.{has}
+use Rattle.mask.specs.Mask.{has, plus}
 
 -- Each item of a below the width is in b: document 01's "within".
 unfoldable pub within : ℕ → ℕ → ℕ → Bool
 within width a b = every width (λ i. not (has i a) || has i b)
+
+-- The items of m, and i where it is below the width.
+unfoldable pub plusBelow : ℕ → ℕ → ℕ → ℕ
+plusBelow width m i = cond (ltb i width) (plus m i) m
 
 -- How many items below the width are in m.
 unfoldable pub size : ℕ → ℕ → ℕ

@@ -1,9 +1,8 @@
 // Sets of small numbers as masks: identifiers in 32 bits, templates in 64.
 ghost use mathlib.Core.Path.{_≡_};
-ghost use Prim.Native.Nat.{_<_};
 ghost use Rattle.lists.specs.Numbers.{lowest};
-ghost use Rattle.mask.specs.Mask.{has, without, plus};
-ghost use Rattle.mask.specs.Sets.{within, size};
+ghost use Rattle.mask.specs.Mask.{has, without};
+ghost use Rattle.mask.specs.Sets.{within, plusBelow, size};
 
 // Whether item i is in the mask m; nothing stands at or past the width.
 pub fn contains_u32(m: u32, i: u32) -> bool
@@ -46,11 +45,13 @@ pub fn lowest_item(m: u32) -> u32
     u32::trailing_zeros(m)
 }
 
-// The items of m, and x.
+// The items of m, and x where it is below the width.
 pub fn insert(m: u64, x: u8) -> u64
-    requires { ⌜ x < 64 ⌝ }
-    ensures { λ r. ⌜ r ≡ plus m x ⌝ }
+    ensures { λ r. ⌜ r ≡ plusBelow 64 m x ⌝ }
 {
+    if 64 <= x {
+        return m;
+    }
     m | (1u64 << x)
 }
 

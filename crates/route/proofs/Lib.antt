@@ -1,6 +1,7 @@
 pub mod Routes
 pub mod Searches
 pub mod Sets
+pub mod Layouts
 pub mod Crossings
 pub mod Exact
 pub mod Steps

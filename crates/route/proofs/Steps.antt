@@ -4,48 +4,53 @@ use Prim.Native.Nat.{ℕ, _+_, _^_, _<_, _≤_}
 use mathlib.Core.Path.{_≡_, refl, sym, ap, ap₂, _∙_}
 use mathlib.Core.Logic.{_↔_, ⊎-elim}
 use mathlib.Core.List.{List}
-use mathlib.Core.Bool.{Bool, true, false, not, _&&_, _||_, or-false}
+use mathlib.Core.Bool.{Bool, true, false, not, cond, _&&_, _||_, or-false}
 use native.Mathlib.Nat.{lt-of-le-of-lt}
 use native.Mathlib.Numerals.{add-one}
 use native.Mathlib.Omega.{arith}
 use lib.Dec.{ltb, eqb}
 use lib.Bits.{bitAnd, and-le-l}
+use lib.ListN.{getD}
 use borrow.Author.Tests.{ltb-true, eqb-true, eq-eqb, not-true, not-false}
 use Rattle.lists.specs.Numbers.{any}
 use Rattle.lists.proofs.Tests.{both, either, and-left, and-right, and-of, same-test, passes-fails, fails, bool?}
 use Rattle.lists.proofs.Every.{any-at, any-acc}
 use Rattle.mask.specs.Mask.{has, plus}
+use Rattle.mask.specs.Sets.{plusBelow}
 use Rattle.mask.proofs.Items.{has-and, has-none}
 use Rattle.mask.proofs.Width.{empty}
 use Rattle.plan.specs.declared.Form.{Form}
-use Rattle.plan.specs.declared.Form.the-variants.{End, Go, Either, Both}
 use Rattle.plan.specs.declared.Plan.{Plan}
-use Rattle.plan.specs.declared.Template.{Template}
-use Rattle.plan.specs.declared.Successors.{Successors}
-use Rattle.plan.specs.Plan.{at, successors, creates}
-use Rattle.plan.specs.Listed.{listed}
+use Rattle.plan.specs.Plan.{blank, at, successors, creates}
 use Rattle.plan.specs.Range.{InRange}
 use Rattle.route.specs.Route.{Reaches}
 use Rattle.route.specs.declared.Target.{Target}
 use Rattle.route.specs.declared.Targets.{Targets}
 use Rattle.route.specs.declared.Forks.{Forks}
 use Rattle.route.specs.Search.{among, chosen, including, collect, only, meet, isOpen, enter, reach, isWay, ways, targets, widened, extended, holds, passes, crosses, branchesCross, onBranches, forkCrosses, leads, anyIn}
+use Rattle.route.specs.Layout.{isFork, firsts, seconds, forked, laidOut}
 use Rattle.route.proofs.Sets.{meet-from}
 use Rattle.route.proofs.Searches.{reach-exactly}
-use Rattle.route.proofs.Entering.{listed-none, listed-one, listed-two}
+use Rattle.route.proofs.Layouts.{laid-form, laid-past, reach-laid}
 
 -- ---- masks
 
-pub include-low : (x : ℕ) (wanted : Bool) → (ltb x 64 && wanted) ≡ true → x < 64
-include-low x wanted e = ltb-true x 64 (and-left _ _ e)
+pub included : (m x r : ℕ) (wanted : Bool) → wanted ≡ true → r ≡ plusBelow 64 m x → r ≡ including m x wanted
+unfolding including chosen both plusBelow
+included m x r wanted e h = h ∙ go (ltb x 64) ∙ ap (including m x) (sym e)
+  where
+    go : (b : Bool) → cond b (plus m x) m ≡ chosen (both b true) m (λ _. plus m x)
+    go true = refl
+    go false = refl
 
-pub included : (m x r : ℕ) (wanted : Bool) → (ltb x 64 && wanted) ≡ true → r ≡ plus m x → r ≡ including m x wanted
+-- What is not wanted changes nothing.
+pub not-included : (m x : ℕ) (wanted : Bool) → wanted ≡ false → m ≡ including m x wanted
 unfolding including chosen both
-included m x r wanted e h = h ∙ sym (ap (λ (b : Bool). chosen b m (λ _. plus m x)) e)
-
-pub not-included : (m x : ℕ) (wanted : Bool) → (ltb x 64 && wanted) ≡ false → m ≡ including m x wanted
-unfolding including chosen both
-not-included m x wanted e = sym (ap (λ (b : Bool). chosen b m (λ _. plus m x)) e)
+not-included m x wanted e = go (ltb x 64) ∙ ap (including m x) (sym e)
+  where
+    go : (b : Bool) → m ≡ chosen (both b false) m (λ _. plus m x)
+    go true = refl
+    go false = refl
 
 pub only-is : (x r : ℕ) → r ≡ including 0 x true → r ≡ only x
 unfolding only
@@ -64,11 +69,7 @@ meet-is m n l = same-test (not (eqb (bitAnd m n) 0)) (meet m n)
     (has-and (w .0) m n ∙ and-of (has (w .0) m) (has (w .0) n) (w .2) (w .3))
     (ap (has (w .0)) (eqb-true (bitAnd m n) 0 z) ∙ has-none (w .0)))))
 
--- ---- successors, and what is open
-
-pub successors-are : (plan : Plan) (x : ℕ) (template : Template) (s : Successors) → template ≡ at plan x → listed s ≡ successors (template .form)
-    → listed s ≡ successors (at plan x .form)
-successors-are plan x template s e h = h ∙ ap (λ (u : Template). successors (u .form)) e
+-- ---- what is open
 
 pub open-is : (x barred seen : ℕ) (s b : Bool) → s ≡ has x seen → b ≡ has x barred → (ltb x 64 && (not s && not b)) ≡ isOpen (among barred) seen x
 unfolding isOpen both
@@ -76,15 +77,25 @@ open-is x barred seen s b p q = ap₂ (λ (u v : Bool). ltb x 64 && (not u && no
 
 -- ---- a search
 
-pub search-is : (plan : Plan) (start barred r : ℕ) → r ≡ enter plan (among barred) 64 0 start
-    → (r ≡ reach plan (among barred) start) × (InRange plan → start < 64 → (X : ℕ) → (has X r ≡ true) ↔ Reaches plan (among barred) start X)
+pub search-laid : (first second : List ℕ) (start barred r : ℕ) → r ≡ enter (laidOut first second) (among barred) 64 0 start
+    → r ≡ reach (laidOut first second) (among barred) start
 unfolding reach
-search-is plan start barred r e = (
-  e,
-  λ range low X.
-      let exact = reach-exactly plan range (among barred) start X low in
-      ((λ h. exact .0 (ap (has X) (sym e) ∙ h)), (λ h. ap (has X) e ∙ exact .1 h)),
-)
+search-laid first second start barred r e = e
+
+-- The layout of a plan, as it was laid out.
+pub laid-as : (plan : Plan) (first second : List ℕ) → first ≡ firsts plan → second ≡ seconds plan → laidOut first second ≡ laidOut (firsts plan) (seconds plan)
+laid-as plan first second p q = ap₂ laidOut p q
+
+pub search-is : (plan : Plan) (first second : List ℕ) (start barred r : ℕ) → first ≡ firsts plan → second ≡ seconds plan
+    → r ≡ reach (laidOut first second) (among barred) start
+    → (r ≡ reach plan (among barred) start) × (InRange plan → start < 64 → (X : ℕ) → (has X r ≡ true) ↔ Reaches plan (among barred) start X)
+search-is plan first second start barred r p q h =
+    let e = h ∙ ap (λ (u : Plan). reach u (among barred) start) (laid-as plan first second p q) ∙ reach-laid plan (among barred) start in (
+      e,
+      λ range low X.
+          let exact = reach-exactly plan range (among barred) start X low in
+          ((λ h. exact .0 (ap (has X) (sym e) ∙ h)), (λ h. ap (has X) e ∙ exact .1 h)),
+    )
 
 -- ---- the templates that pass a test, as a loop collects them
 
@@ -100,9 +111,16 @@ collect-more test n found r wanted e w h = h ∙ ap₂ (λ (m : ℕ) (b : Bool).
 pub collect-end : (test : ℕ → Bool) (n found : ℕ) → n ≤ 64 → 64 ≤ n → found ≡ collect n test → found ≡ collect 64 test
 collect-end test n found l g e = let q : n ≡ 64 = omega arith in e ∙ ap (λ (k : ℕ). collect k test) q
 
-pub creates-is : (plan : Plan) (t x : ℕ) (template : Template) (r : Bool) → template ≡ at plan x → r ≡ has t (template .creates) → r ≡ creates plan t x
-unfolding creates
-creates-is plan t x template r e h = h ∙ ap (λ (u : Template). has t (u .creates)) e
+-- The same where the test is made of the template that stands in the array.
+pub creators-more : (plan : Plan) (t n found r : ℕ) (wanted : Bool) → found ≡ collect n (creates plan t) → wanted ≡ has t (getD (plan .templates) n blank .creates)
+    → r ≡ including found n wanted → r ≡ collect (n + 1) (creates plan t)
+unfolding creates at
+creators-more plan t n found r wanted e w h = collect-more (creates plan t) n found r wanted e w h
+
+pub forks-more : (plan : Plan) (n found r : ℕ) (wanted : Bool) → found ≡ collect n (forked plan) → wanted ≡ isFork (getD (plan .templates) n blank .form)
+    → r ≡ including found n wanted → r ≡ collect (n + 1) (forked plan)
+unfolding forked at
+forks-more plan n found r wanted e w h = collect-more (forked plan) n found r wanted e w h
 
 -- ---- the targets
 
@@ -111,13 +129,9 @@ pub widen-is : (to : Target) (x m : ℕ) (wanted : Bool) → m ≡ including (to
 unfolding widened
 widen-is to x m wanted e = ap (λ (w : ℕ). record { place = to .place; ways = w }) e
 
--- What is not wanted changes nothing.
-not-wanted : (m x : ℕ) (wanted : Bool) → wanted ≡ false → m ≡ including m x wanted
-not-wanted m x wanted e = not-included m x wanted (fails (ltb x 64 && wanted) (λ h. passes-fails wanted (and-right (ltb x 64) wanted h) e))
-
 not-widened : (to : Target) (x : ℕ) (wanted : Bool) → wanted ≡ false → to ≡ widened to x wanted
 unfolding widened
-not-widened to x wanted e = ap (λ (w : ℕ). record { place = to .place; ways = w }) (not-wanted (to .ways) x wanted e)
+not-widened to x wanted e = ap (λ (w : ℕ). record { place = to .place; ways = w }) (not-included (to .ways) x wanted e)
 
 module _ (plan : Plan) (barred via : ℕ) (to : Targets) (x : ℕ) (v : Bool) (asked : v ≡ has x via) where
   no-way : not v ≡ true → (place : ℕ) → isWay plan barred via place x ≡ false
@@ -175,32 +189,21 @@ unfolding branchesCross either
 branches-cross-is plan barred to direct passing y z m n a b p q h k =
     ap₂ _||_ h k ∙ (λ i. crosses to direct passing (p i) (q i) || crosses to direct passing (q i) (p i))
 
-module _ (plan : Plan) (barred : ℕ) (to : Targets) (forks : Forks) (x : ℕ) where
-  pub fork-unreached : (v : Bool) → v ≡ has x (forks .reached) → not v ≡ true → false ≡ forkCrosses plan barred to forks x
+module _ (first second : List ℕ) (barred : ℕ) (to : Targets) (forks : Forks) (x : ℕ) (v : Bool) (asked : v ≡ has x (forks .reached)) where
+  abbrev crossing : Plan → Bool → Bool
+  crossing plan b = b && onBranches (at plan x .form) (branchesCross plan barred to (has x (forks .direct)) (has x (forks .passing)))
+
+  pub fork-unreached : not v ≡ true → false ≡ forkCrosses (laidOut first second) barred to forks x
   unfolding forkCrosses both
-  fork-unreached v asked e =
-      sym (ap (λ (b : Bool). b && onBranches (at plan x .form) (branchesCross plan barred to (has x (forks .direct)) (has x (forks .passing)))) (sym asked ∙ not-true v e))
+  fork-unreached e = sym (ap (crossing (laidOut first second)) (sym asked ∙ not-true v e))
 
-  module _ (v : Bool) (asked : v ≡ has x (forks .reached)) (e : not v ≡ false) (template : Template) (found : template ≡ at plan x) where
-    on-form : (form : Form) → template .form ≡ form
-        → onBranches form (branchesCross plan barred to (has x (forks .direct)) (has x (forks .passing))) ≡ forkCrosses plan barred to forks x
-    unfolding forkCrosses both
-    on-form form q =
-        ap (λ (f : Form). onBranches f (branchesCross plan barred to (has x (forks .direct)) (has x (forks .passing)))) (sym q ∙ ap (λ (u : Template). u .form) found)
-        ∙ sym (ap (λ (b : Bool). b && onBranches (at plan x .form) (branchesCross plan barred to (has x (forks .direct)) (has x (forks .passing)))) (sym asked ∙ not-false v e))
-
-    pub fork-end : template .form ≡ End → false ≡ forkCrosses plan barred to forks x
-    fork-end q = on-form End q
-
-    pub fork-go : (y : ℕ) → template .form ≡ Go y → false ≡ forkCrosses plan barred to forks x
-    fork-go y q = on-form (Go y) q
-
-    pub fork-either : (y z : ℕ) → template .form ≡ Either y z → false ≡ forkCrosses plan barred to forks x
-    fork-either y z q = on-form (Either y z) q
-
-    pub fork-both : (y z : ℕ) (a b r : Bool) → template .form ≡ Both y z → a ≡ has x (forks .direct) → b ≡ has x (forks .passing)
-        → r ≡ branchesCross plan barred to a b y z → r ≡ forkCrosses plan barred to forks x
-    fork-both y z a b r q h k w = w ∙ ap₂ (λ (u s : Bool). branchesCross plan barred to u s y z) h k ∙ on-form (Both y z) q
+  pub fork-reached : not v ≡ false → x < 64 → (a b r : Bool) → a ≡ has x (forks .direct) → b ≡ has x (forks .passing)
+      → r ≡ branchesCross (laidOut first second) barred to a b (getD first x 0) (getD second x 0) → r ≡ forkCrosses (laidOut first second) barred to forks x
+  unfolding forkCrosses both
+  fork-reached e l a b r h k w =
+      w ∙ ap₂ (λ (u s : Bool). branchesCross (laidOut first second) barred to u s (getD first x 0) (getD second x 0)) h k
+      ∙ sym (ap (λ (form : Form). onBranches form (branchesCross (laidOut first second) barred to (has x (forks .direct)) (has x (forks .passing)))) (laid-form first second x l))
+      ∙ sym (ap (crossing (laidOut first second)) (sym asked ∙ not-false v e))
 
 -- ---- a loop that tries every number, and the successors of a template
 
@@ -216,16 +219,14 @@ unfolding leads holds passes both either
 leads-is plan barred to direct y m a b p q h =
     ap₂ (λ (u v : Bool). (direct && u) || v) q h ∙ ap (λ (k : ℕ). (direct && has (to .place) k) || meet k (to .ways)) p
 
-module _ (test : ℕ → Bool) (list : List ℕ) (next : Successors) (listing : listed next ≡ list) where
-  pub in-none : next .count ≡ 0 → false ≡ anyIn test list
-  unfolding anyIn
-  in-none q = ap (anyIn test) (sym (listed-none next q) ∙ listing)
+module _ (first second : List ℕ) (test : ℕ → Bool) (x : ℕ) where
+  pub none-leads : 64 ≤ x → false ≡ anyIn test (successors (at (laidOut first second) x .form))
+  unfolding anyIn successors
+  none-leads h = sym (ap (λ (form : Form). anyIn test (successors form)) (laid-past first second x h))
 
-  pub in-one : (a : Bool) → a ≡ test (next .first) → next .count ≡ 1 → a ≡ anyIn test list
-  unfolding anyIn either
-  in-one a h q = h ∙ sym (or-false (test (next .first))) ∙ ap (anyIn test) (sym (listed-one next q) ∙ listing)
-
-  pub in-two : (a b : Bool) → (next .count ≡ 0 → ⊥) → (next .count ≡ 1 → ⊥) → a ≡ test (next .first) → b ≡ test (next .second) → (a || b) ≡ anyIn test list
-  unfolding anyIn either
-  in-two a b f g h k =
-      ap₂ _||_ h (k ∙ sym (or-false (test (next .second)))) ∙ ap (anyIn test) (sym (listed-two next f g) ∙ listing)
+  pub either-leads : x < 64 → (a b : Bool) → a ≡ test (getD first x 0) → b ≡ test (getD second x 0)
+      → (a || b) ≡ anyIn test (successors (at (laidOut first second) x .form))
+  unfolding anyIn successors either
+  either-leads l a b h k =
+      ap₂ _||_ h (k ∙ sym (or-false (test (getD second x 0))))
+      ∙ sym (ap (λ (form : Form). anyIn test (successors form)) (laid-form first second x l))

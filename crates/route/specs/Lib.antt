@@ -1,2 +1,3 @@
 pub mod Route
 pub mod Search
+pub mod Layout

@@ -1,8 +1,8 @@
 // The searches over a plan's successors, and both tag relations by them. Each search that a relation names is made,
-// whatever the others found (document 02, U13, counts them).
+// whatever the others found (document 02, U13, counts them). They run over a layout of the plan, two lent arrays of
+// successors, since a plan by value would be copied at each template that is entered.
 use plan::Form;
 use plan::Plan;
-use plan::Successors;
 ghost use mathlib.Core.Path.{_≡_};
 ghost use mathlib.Core.Bool.{true};
 ghost use mathlib.Core.Logic.{_↔_};
@@ -10,10 +10,10 @@ ghost use Prim.Native.Nat.{ℕ, _<_};
 ghost use Rattle.lists.specs.Numbers.{any};
 ghost use Rattle.mask.specs.Mask.{has};
 ghost use Rattle.plan.specs.Plan.{at, successors, creates};
-ghost use Rattle.plan.specs.Listed.{listed};
 ghost use Rattle.plan.specs.Range.{InRange};
 ghost use Rattle.route.specs.Route.{Reaches, SharedTag, SplitTag};
 ghost use Rattle.route.specs.Search.{among, including, collect, only, meet, isOpen, enter, reach, widened, extended, targets, crosses, branchesCross, forkCrosses, leads, anyIn, sharesTag, splitsTag};
+ghost use Rattle.route.specs.Layout.{firstOf, secondOf, isFork, firsts, seconds, forked, laidOut};
 
 // A template to be reached, and the mask of the ways that lead to it.
 pub struct Target {
@@ -34,11 +34,14 @@ pub struct Forks {
     pub passing: u64,
 }
 
+// A successor that a template lacks: no place of a plan, so no search enters it.
+const NOWHERE: u8 = 64;
+
 // m with the template x, where x is wanted and a place of a plan.
 fn include(m: u64, x: u8, wanted: bool) -> u64
     ensures { λ r. ⌜ r ≡ including m x wanted ⌝ }
 {
-    if (x < 64) & wanted {
+    if wanted {
         return mask::insert(m, x);
     }
     m
@@ -58,13 +61,83 @@ fn meet(m: u64, n: u64) -> bool
     m & n != 0
 }
 
-// The successors of template x.
-fn successors_at(plan: Plan, x: u8) -> Successors
-    ensures { λ r. ⌜ listed r ≡ successors (at plan x .form) ⌝ }
+// The first successor, the second one, and whether they are branches.
+fn first_of(form: Form) -> u8
+    ensures { λ r. ⌜ r ≡ firstOf form ⌝ }
 {
-    let template = plan::template_at(plan, x);
-    let form = template.form;
-    plan::successors_of(form)
+    match form {
+        Form::End => NOWHERE,
+        Form::Go(y) => y,
+        Form::Either(y, _) => y,
+        Form::Both(y, _) => y,
+    }
+}
+
+fn second_of(form: Form) -> u8
+    ensures { λ r. ⌜ r ≡ secondOf form ⌝ }
+{
+    match form {
+        Form::End => NOWHERE,
+        Form::Go(_) => NOWHERE,
+        Form::Either(_, z) => z,
+        Form::Both(_, z) => z,
+    }
+}
+
+fn is_fork(form: Form) -> bool
+    ensures { λ r. ⌜ r ≡ isFork form ⌝ }
+{
+    match form {
+        Form::End => false,
+        Form::Go(_) => false,
+        Form::Either(_, _) => false,
+        Form::Both(_, _) => true,
+    }
+}
+
+// The layout of a plan: the first successor of each template,
+fn lay_firsts(plan: Plan) -> [u8; 64]
+    ensures { λ r. ⌜ r ≡ firsts plan ⌝ }
+{
+    let mut first = [0u8; 64];
+    let mut i: usize = 0;
+    while i < 64 {
+        let template = plan.templates[i];
+        let form = template.form;
+        first[i] = first_of(form);
+        i += 1;
+    }
+    first
+}
+
+// the second one,
+fn lay_seconds(plan: Plan) -> [u8; 64]
+    ensures { λ r. ⌜ r ≡ seconds plan ⌝ }
+{
+    let mut second = [0u8; 64];
+    let mut i: usize = 0;
+    while i < 64 {
+        let template = plan.templates[i];
+        let form = template.form;
+        second[i] = second_of(form);
+        i += 1;
+    }
+    second
+}
+
+// and the templates that are a `both`.
+fn lay_forks(plan: Plan) -> u64
+    ensures { λ r. ⌜ r ≡ collect 64 (forked plan) ⌝ }
+{
+    let mut found: u64 = 0;
+    let mut x: u8 = 0;
+    while x < 64 {
+        let template = plan.templates[x as usize];
+        let form = template.form;
+        found = include(found, x, is_fork(form));
+        x += 1;
+    }
+    found
 }
 
 // Whether template x is to be entered: a place of a plan, not seen yet and not barred.
@@ -75,38 +148,33 @@ fn is_open(x: u8, barred: u64, seen: u64) -> bool
 }
 
 // Depth first: what was seen, with template x, if it is open, and what is entered from its successors.
-fn enter(plan: Plan, x: u8, barred: u64, seen: u64) -> u64
-    ensures { λ r. ⌜ r ≡ enter plan (among barred) 64 seen x ⌝ }
+fn enter<'a>(first: &'a [u8; 64], second: &'a [u8; 64], x: u8, barred: u64, seen: u64) -> u64
+    ensures { λ r. ⌜ r ≡ enter (laidOut (now (first .entry)) (now (second .entry))) (among barred) 64 seen x ⌝ }
 {
     if !is_open(x, barred, seen) {
         return seen;
     }
     let here = mask::insert(seen, x);
-    let next = successors_at(plan, x);
-    if next.count == 0 {
-        return here;
-    }
-    let after = enter(plan, next.first, barred, here);
-    if next.count == 1 {
-        return after;
-    }
-    enter(plan, next.second, barred, after)
+    let i = x as usize;
+    let after = enter(first, second, first[i], barred, here);
+    enter(first, second, second[i], barred, after)
 }
 
 // The templates that routes from start reach without a barred one.
+fn search_from<'a>(first: &'a [u8; 64], second: &'a [u8; 64], start: u8, barred: u64) -> u64
+    ensures { λ r. ⌜ r ≡ reach (laidOut (now (first .entry)) (now (second .entry))) (among barred) start ⌝ }
+{
+    enter(first, second, start, barred, 0)
+}
+
+// The same over a plan.
 pub fn search(plan: Plan, start: u8, barred: u64) -> u64
     ensures tested { λ r. ⌜ r ≡ reach plan (among barred) start ⌝ }
     ensures exact { λ r. ⌜ (InRange plan → start < 64 → (X : ℕ) → (has X r ≡ true) ↔ Reaches plan (among barred) start X) ⌝ }
 {
-    enter(plan, start, barred, 0)
-}
-
-// Whether template x creates identifier t.
-fn creates_at(plan: Plan, t: u32, x: u8) -> bool
-    ensures { λ r. ⌜ r ≡ creates plan t x ⌝ }
-{
-    let template = plan::template_at(plan, x);
-    mask::contains_u32(template.creates, t)
+    let first = lay_firsts(plan);
+    let second = lay_seconds(plan);
+    search_from(&first, &second, start, barred)
 }
 
 // The templates that create identifier t.
@@ -116,7 +184,8 @@ pub fn creators(plan: Plan, t: u32) -> u64
     let mut found: u64 = 0;
     let mut x: u8 = 0;
     while x < 64 {
-        found = include(found, x, creates_at(plan, t, x));
+        let template = plan.templates[x as usize];
+        found = include(found, x, mask::contains_u32(template.creates, t));
         x += 1;
     }
     found
@@ -132,13 +201,20 @@ fn widen(to: Target, x: u8, wanted: bool) -> Target
 }
 
 // Both targets with template x as one more way, where it is one: one search, if it is one of the templates via.
-fn extend(plan: Plan, barred: u64, via: u64, to: Targets, x: u8) -> Targets
-    ensures { λ r. ⌜ r ≡ extended plan barred via to x ⌝ }
+fn extend<'a>(
+    first: &'a [u8; 64],
+    second: &'a [u8; 64],
+    barred: u64,
+    via: u64,
+    to: Targets,
+    x: u8,
+) -> Targets
+    ensures { λ r. ⌜ r ≡ extended (laidOut (now (first .entry)) (now (second .entry))) barred via to x ⌝ }
 {
     if !mask::contains_u64(via, x) {
         return to;
     }
-    let m = search(plan, x, barred);
+    let m = search_from(first, second, x, barred);
     let source = to.source;
     let sink = to.sink;
     let source = widen(source, x, mask::contains_u64(m, source.place));
@@ -147,8 +223,15 @@ fn extend(plan: Plan, barred: u64, via: u64, to: Targets, x: u8) -> Targets
 }
 
 // The source and the sink as targets, each with all its ways.
-fn find_targets(plan: Plan, barred: u64, via: u64, source: u8, sink: u8) -> Targets
-    ensures { λ r. ⌜ r ≡ targets 64 plan barred via source sink ⌝ }
+fn find_targets<'a>(
+    first: &'a [u8; 64],
+    second: &'a [u8; 64],
+    barred: u64,
+    via: u64,
+    source: u8,
+    sink: u8,
+) -> Targets
+    ensures { λ r. ⌜ r ≡ targets 64 (laidOut (now (first .entry)) (now (second .entry))) barred via source sink ⌝ }
 {
     let mut to = Targets {
         source: Target {
@@ -162,7 +245,7 @@ fn find_targets(plan: Plan, barred: u64, via: u64, source: u8, sink: u8) -> Targ
     };
     let mut x: u8 = 0;
     while x < 64 {
-        to = extend(plan, barred, via, to, x);
+        to = extend(first, second, barred, via, to, x);
         x += 1;
     }
     to
@@ -183,8 +266,9 @@ fn crosses(to: Targets, direct: bool, passing: bool, m: u64, n: u64) -> bool
 }
 
 // Whether the branches y and z of a fork cross, in either assignment: two searches.
-fn branches_cross(
-    plan: Plan,
+fn branches_cross<'a>(
+    first: &'a [u8; 64],
+    second: &'a [u8; 64],
     barred: u64,
     to: Targets,
     direct: bool,
@@ -192,69 +276,95 @@ fn branches_cross(
     y: u8,
     z: u8,
 ) -> bool
-    ensures { λ r. ⌜ r ≡ branchesCross plan barred to direct passing y z ⌝ }
+    ensures { λ r. ⌜ r ≡ branchesCross (laidOut (now (first .entry)) (now (second .entry))) barred to direct passing y z ⌝ }
 {
-    let m = search(plan, y, barred);
-    let n = search(plan, z, barred);
+    let m = search_from(first, second, y, barred);
+    let n = search_from(first, second, z, barred);
     crosses(to, direct, passing, m, n) | crosses(to, direct, passing, n, m)
 }
 
 // Whether template x is a fork whose branches cross.
-fn fork_crosses(plan: Plan, barred: u64, to: Targets, forks: Forks, x: u8) -> bool
-    ensures { λ r. ⌜ r ≡ forkCrosses plan barred to forks x ⌝ }
+fn fork_crosses<'a>(
+    first: &'a [u8; 64],
+    second: &'a [u8; 64],
+    barred: u64,
+    to: Targets,
+    forks: Forks,
+    x: u8,
+) -> bool
+    requires { ⌜ x < 64 ⌝ }
+    ensures { λ r. ⌜ r ≡ forkCrosses (laidOut (now (first .entry)) (now (second .entry))) barred to forks x ⌝ }
 {
     if !mask::contains_u64(forks.reached, x) {
         return false;
     }
-    let template = plan::template_at(plan, x);
-    let form = template.form;
-    match form {
-        Form::End => false,
-        Form::Go(_) => false,
-        Form::Either(_, _) => false,
-        Form::Both(y, z) => {
-            let direct = mask::contains_u64(forks.direct, x);
-            let passing = mask::contains_u64(forks.passing, x);
-            branches_cross(plan, barred, to, direct, passing, y, z)
-        }
-    }
+    let i = x as usize;
+    let direct = mask::contains_u64(forks.direct, x);
+    let passing = mask::contains_u64(forks.passing, x);
+    branches_cross(
+        first,
+        second,
+        barred,
+        to,
+        direct,
+        passing,
+        first[i],
+        second[i],
+    )
 }
 
 // Whether the branches of some fork cross. Every fork is tried.
-fn some_fork_crosses(plan: Plan, barred: u64, to: Targets, forks: Forks) -> bool
-    ensures { λ r. ⌜ r ≡ any 64 (forkCrosses plan barred to forks) ⌝ }
+fn some_fork_crosses<'a>(
+    first: &'a [u8; 64],
+    second: &'a [u8; 64],
+    barred: u64,
+    to: Targets,
+    forks: Forks,
+) -> bool
+    ensures { λ r. ⌜ r ≡ any 64 (forkCrosses (laidOut (now (first .entry)) (now (second .entry))) barred to forks) ⌝ }
 {
     let mut found = false;
     let mut x: u8 = 0;
     while x < 64 {
-        found = found | fork_crosses(plan, barred, to, forks, x);
+        found = found | fork_crosses(first, second, barred, to, forks, x);
         x += 1;
     }
     found
 }
 
 // Whether routes from template y lead to the sink: one search.
-fn leads(plan: Plan, barred: u64, to: Target, direct: bool, y: u8) -> bool
-    ensures { λ r. ⌜ r ≡ leads plan barred to direct y ⌝ }
+fn leads<'a>(
+    first: &'a [u8; 64],
+    second: &'a [u8; 64],
+    barred: u64,
+    to: Target,
+    direct: bool,
+    y: u8,
+) -> bool
+    ensures { λ r. ⌜ r ≡ leads (laidOut (now (first .entry)) (now (second .entry))) barred to direct y ⌝ }
 {
-    let m = search(plan, y, barred);
+    let m = search_from(first, second, y, barred);
     (direct & mask::contains_u64(m, to.place)) | meet(m, to.ways)
 }
 
 // Whether routes from some successor of template x lead to the sink. Every successor is tried.
-fn some_successor_leads(plan: Plan, barred: u64, to: Target, direct: bool, x: u8) -> bool
-    ensures { λ r. ⌜ r ≡ anyIn (leads plan barred to direct) (successors (at plan x .form)) ⌝ }
+fn some_successor_leads<'a>(
+    first: &'a [u8; 64],
+    second: &'a [u8; 64],
+    barred: u64,
+    to: Target,
+    direct: bool,
+    x: u8,
+) -> bool
+    ensures { λ r. ⌜ r ≡ anyIn (leads (laidOut (now (first .entry)) (now (second .entry))) barred to direct) (successors (at (laidOut (now (first .entry)) (now (second .entry))) x .form)) ⌝ }
 {
-    let next = successors_at(plan, x);
-    if next.count == 0 {
+    if 64 <= x {
         return false;
     }
-    let first = leads(plan, barred, to, direct, next.first);
-    if next.count == 1 {
-        return first;
-    }
-    let second = leads(plan, barred, to, direct, next.second);
-    first | second
+    let i = x as usize;
+    let one = leads(first, second, barred, to, direct, first[i]);
+    let other = leads(first, second, barred, to, direct, second[i]);
+    one | other
 }
 
 // Document 01's Joined (t, S, K, A): C barred, by way of A. No way is needed at a fork, nor from the source, where the
@@ -264,20 +374,23 @@ pub fn shares_tag(plan: Plan, t: u32, source: u8, sink: u8, anc: u8) -> bool
     ensures tested { λ r. ⌜ r ≡ sharesTag plan t source sink anc ⌝ }
     ensures exact { λ r. ⌜ (InRange plan → (r ≡ true) ↔ SharedTag plan t source sink anc) ⌝ }
 {
+    let first = lay_firsts(plan);
+    let second = lay_seconds(plan);
+    let both = lay_forks(plan);
     let barred = creators(plan, t);
     let way = only(anc);
-    let root = search(plan, 0, 0);
-    let lacking = search(plan, 0, way);
-    let to = find_targets(plan, barred, way, source, sink);
+    let root = search_from(&first, &second, 0, 0);
+    let lacking = search_from(&first, &second, 0, way);
+    let to = find_targets(&first, &second, barred, way, source, sink);
     let forks = Forks {
-        reached: root,
+        reached: root & both,
         direct: lacking,
         passing: root,
     };
-    let at_fork = some_fork_crosses(plan, barred, to, forks);
+    let at_fork = some_fork_crosses(&first, &second, barred, to, forks);
     let target = to.sink;
     let free = mask::contains_u64(lacking, source);
-    let down = some_successor_leads(plan, barred, target, free, source);
+    let down = some_successor_leads(&first, &second, barred, target, free, source);
     at_fork | (mask::contains_u64(root, source) & down)
 }
 
@@ -287,16 +400,19 @@ pub fn splits_tag(plan: Plan, t: u32, source: u8, sink: u8, anc: u8) -> bool
     ensures tested { λ r. ⌜ r ≡ splitsTag plan t source sink anc ⌝ }
     ensures exact { λ r. ⌜ (InRange plan → (r ≡ true) ↔ SplitTag plan t source sink anc) ⌝ }
 {
+    let first = lay_firsts(plan);
+    let second = lay_seconds(plan);
+    let both = lay_forks(plan);
     let barred = only(anc);
     let way = creators(plan, t);
-    let root = search(plan, 0, 0);
-    let under = search(plan, anc, 0);
-    let to = find_targets(plan, barred, way, source, sink);
+    let root = search_from(&first, &second, 0, 0);
+    let under = search_from(&first, &second, anc, 0);
+    let to = find_targets(&first, &second, barred, way, source, sink);
     let forks = Forks {
-        reached: root,
+        reached: root & both,
         direct: 0,
         passing: under,
     };
-    let at_fork = some_fork_crosses(plan, barred, to, forks);
+    let at_fork = some_fork_crosses(&first, &second, barred, to, forks);
     mask::contains_u64(root, anc) & at_fork
 }

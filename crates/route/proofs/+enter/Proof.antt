@@ -5,38 +5,26 @@ use borrow.Author.Needs.{needs}
 use borrow.Fn.Kinds.{In}
 use borrow.Fn.PlainCycle.{Measures, is, falls, and}
 use Rattle.route.proofs.Searches.{left}
-use Rattle.route.proofs.Entering.{enter-stops, enter-low, enter-less, enter-none, enter-one, enter-less-again, enter-two}
+use Rattle.route.proofs.Entering.{enter-stops, enter-low, enter-less, enter-less-again, enter-both}
 use Rattle.route.proofs.enter.Reads as enter
 use Rattle.route.proofs.enter.Kinds as enter-kinds
 use Rattle.route.proofs.+enter.Lts-enter as enter-lts
 use Rattle.mask.proofs.insert.Reads as insert-reads
 use Rattle.route.proofs.is_open.Reads as is-open-reads
-use Rattle.route.proofs.successors_at.Reads as successors-at-reads
 use Rattle.route.proofs.+enter.{statement}
 use Rattle.route.proofs.+enter.Tie.{close}
 
-abbrev μ-enter : Measures 0 enter-kinds.ps ℕ
-μ-enter κs a = left (a .1 .1 .1 .0)
+abbrev μ-enter : Measures 1 enter-kinds.ps ℕ
+μ-enter κs a = left (a .1 .1 .1 .1 .0)
 
-abbrev enter-at : ℕ → In 0 enter-kinds.ps
-enter-at t =
-    and 0 enter-kinds.ps (is 0 enter-kinds.ps μ-enter t) enter.Pre
+abbrev enter-at : ℕ → In 1 enter-kinds.ps
+enter-at t = and 1 enter-kinds.ps (is 1 enter-kinds.ps μ-enter t) enter.Pre
 
-abbrev enter-below : ℕ → In 0 enter-kinds.ps
-enter-below t =
-    and 0 enter-kinds.ps (falls 0 enter-kinds.ps _<_ μ-enter t) enter.Pre
+abbrev enter-below : ℕ → In 1 enter-kinds.ps
+enter-below t = and 1 enter-kinds.ps (falls 1 enter-kinds.ps _<_ μ-enter t) enter.Pre
 
 abbrev claims : ℕ → enter-lts.Claims
-claims t = (
-  is-open-reads.Asked,
-  is-open-reads.Learnt,
-  insert-reads.Asked,
-  insert-reads.Learnt,
-  successors-at-reads.Asked,
-  successors-at-reads.Learnt,
-  enter-below t,
-  enter.Post,
-)
+claims t = (is-open-reads.Asked, is-open-reads.Learnt, insert-reads.Asked, insert-reads.Learnt, enter-below t, enter.Post)
 
 is-open-requires : (t : ℕ) → enter-lts.Need-is-open-requires (claims t) (enter-at t) enter.Post
 is-open-requires t c κs = search needs
@@ -45,25 +33,22 @@ stops : (t : ℕ) → enter-lts.Need-returns (claims t) (enter-at t) enter.Post
 stops t c = search enter-stops
 
 insert-requires : (t : ℕ) → enter-lts.Need-insert-requires (claims t) (enter-at t) enter.Post
-insert-requires t c κs = search enter-low
+insert-requires t c κs = search needs
 
-successors-at-requires : (t : ℕ) → enter-lts.Need-successors-at-requires (claims t) (enter-at t) enter.Post
-successors-at-requires t c κs = search needs
-
-none : (t : ℕ) → enter-lts.Need-returns-2 (claims t) (enter-at t) enter.Post
-none t c = search enter-none
+first-place : (t : ℕ) → enter-lts.Need-element-copy-out-enter (claims t) (enter-at t) enter.Post
+first-place t c = search enter-low
 
 first-requires : (t : ℕ) → enter-lts.Need-enter-requires (claims t) (enter-at t) enter.Post
 first-requires t c κs = (search enter-less, tt)
 
-one : (t : ℕ) → enter-lts.Need-returns-3 (claims t) (enter-at t) enter.Post
-one t c = search enter-one
+second-place : (t : ℕ) → enter-lts.Need-element-copy-out-enter-2 (claims t) (enter-at t) enter.Post
+second-place t c = search enter-low
 
 second-requires : (t : ℕ) → enter-lts.Need-enter-requires-2 (claims t) (enter-at t) enter.Post
 second-requires t c κs = (search enter-less-again, tt)
 
-two : (t : ℕ) → enter-lts.Need-returns-4 (claims t) (enter-at t) enter.Post
-two t c = search enter-two
+both : (t : ℕ) → enter-lts.Need-returns-2 (claims t) (enter-at t) enter.Post
+both t c = search enter-both
 
 pub +enter-spec : {M : Type 1} → statement M
 +enter-spec =
@@ -71,9 +56,8 @@ pub +enter-spec : {M : Type 1} → statement M
     (is-open-requires t)
     (stops t)
     (insert-requires t)
-    (successors-at-requires t)
-    (none t)
+    (first-place t)
     (first-requires t)
-    (one t)
+    (second-place t)
     (second-requires t)
-    (two t)
+    (both t)

@@ -4,11 +4,11 @@ use Rattle.route.proofs.Steps.{branches-cross-is}
 use Rattle.route.proofs.branches_cross.Statement.{statement}
 use Rattle.route.proofs.branches_cross.Tie as tie
 
-search-requires : tie.Need-search-requires
-search-requires c κs = search needs
+search-from-requires : tie.Need-search-from-requires
+search-from-requires c κs = search needs
 
-search-requires-2 : tie.Need-search-requires-2
-search-requires-2 c κs = search needs
+search-from-requires-2 : tie.Need-search-from-requires-2
+search-from-requires-2 c κs = search needs
 
 crosses-requires : tie.Need-crosses-requires
 crosses-requires c κs = search needs
@@ -23,8 +23,8 @@ pub branches-cross-spec : {M : Type 1} → statement M
 branches-cross-spec =
     tie.close
     (tie.spec
-    search-requires
-    search-requires-2
+    search-from-requires
+    search-from-requires-2
     crosses-requires
     crosses-requires-2
     returns)

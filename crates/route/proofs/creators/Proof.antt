@@ -5,21 +5,30 @@ use native.Mathlib.Omega.{arith}
 use borrow.Author.Needs.{needs}
 use Rattle.plan.specs.Plan.{creates}
 use Rattle.route.specs.Search.{collect}
-use Rattle.route.proofs.Steps.{collect-none, collect-more, collect-end}
+use Rattle.route.proofs.Steps.{collect-none, creators-more, collect-end}
 use Rattle.route.proofs.creators.Statement.{statement}
 use Rattle.route.proofs.creators.Tie as tie
 
 abbrev Inv-loop : tie.InvT-loop
-Inv-loop plan t found₀ x₀ found x = (x ≤ 64) × (found ≡ collect x (creates plan t))
+Inv-loop t plan found₀ x₀ found x = (x ≤ 64) × (found ≡ collect x (creates plan t))
 
 abbrev μ-loop : tie.MeasureT-loop
-μ-loop plan t found₀ x₀ found x = 64 - x
+μ-loop t plan found₀ x₀ found x = 64 - x
 
 loop-holds : tie.Need-loop-holds Inv-loop μ-loop
-loop-holds c = (omega arith, search collect-none)
+loop-holds c = (omega arith, collect-none _)
 
-creates-at-requires : tie.Need-creates-at-requires Inv-loop μ-loop
-creates-at-requires c κs = search needs
+cast-template : tie.Need-cast-template Inv-loop μ-loop
+cast-template c = search needs
+
+mul-template : tie.Need-mul-template Inv-loop μ-loop
+mul-template c = search needs
+
+element-copy-out-template : tie.Need-element-copy-out-template Inv-loop μ-loop
+element-copy-out-template c = search needs
+
+contains-u32-requires : tie.Need-contains-u32-requires Inv-loop μ-loop
+contains-u32-requires c κs = search needs
 
 include-requires : tie.Need-include-requires Inv-loop μ-loop
 include-requires c κs = search needs
@@ -31,7 +40,7 @@ loop-less : tie.Need-loop-less Inv-loop μ-loop
 loop-less c = omega arith
 
 loop-again : tie.Need-loop-again Inv-loop μ-loop
-loop-again c = (omega arith, collect-more _ _ _ _ _ (c .before .before .before .loop .inv .1) (c .before .creates-at .ensures) (c .include .ensures))
+loop-again c = (omega arith, creators-more _ _ _ _ _ _ (c .before .before .before .before .loop .inv .1) (c .before .contains-u32 .ensures) (c .include .ensures))
 
 returns : tie.Need-returns Inv-loop μ-loop
 returns c = search collect-end
@@ -43,7 +52,10 @@ creators-spec =
     Inv-loop
     μ-loop
     loop-holds
-    creates-at-requires
+    cast-template
+    mul-template
+    element-copy-out-template
+    contains-u32-requires
     include-requires
     add-x
     loop-less

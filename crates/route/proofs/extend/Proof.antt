@@ -11,8 +11,8 @@ contains-u64-requires c κs = search needs
 returns : tie.Need-returns
 returns c = search extend-none
 
-search-requires : tie.Need-search-requires
-search-requires c κs = search needs
+search-from-requires : tie.Need-search-from-requires
+search-from-requires c κs = search needs
 
 contains-u64-requires-2 : tie.Need-contains-u64-requires-2
 contains-u64-requires-2 c κs = search needs
@@ -35,7 +35,7 @@ extend-spec =
     (tie.spec
     contains-u64-requires
     returns
-    search-requires
+    search-from-requires
     contains-u64-requires-2
     widen-requires
     contains-u64-requires-3

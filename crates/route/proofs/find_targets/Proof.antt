@@ -4,15 +4,16 @@ use mathlib.Core.Path.{_≡_}
 use native.Mathlib.Omega.{arith}
 use borrow.Author.Needs.{needs}
 use Rattle.route.specs.Search.{targets}
+use Rattle.route.specs.Layout.{laidOut}
 use Rattle.route.proofs.Steps.{targets-none, targets-more, targets-end}
 use Rattle.route.proofs.find_targets.Statement.{statement}
 use Rattle.route.proofs.find_targets.Tie as tie
 
 abbrev Inv-loop : tie.InvT-loop
-Inv-loop plan barred via source sink to₀ x₀ to x = (x ≤ 64) × (to ≡ targets x plan barred via source sink)
+Inv-loop first second barred via source sink to₀ x₀ to x = (x ≤ 64) × (to ≡ targets x (laidOut first second) barred via source sink)
 
 abbrev μ-loop : tie.MeasureT-loop
-μ-loop plan barred via source sink to₀ x₀ to x = 64 - x
+μ-loop first second barred via source sink to₀ x₀ to x = 64 - x
 
 loop-holds : tie.Need-loop-holds Inv-loop μ-loop
 loop-holds c = (omega arith, search targets-none)

@@ -1,10 +1,11 @@
--- `route::include` adds x where the test of `including` holds, and leaves the mask as it is where it fails.
-use Rattle.route.proofs.Steps.{include-low, included, not-included}
+-- `route::include` adds x where it is wanted, and leaves the mask as it is where it is not.
+use borrow.Author.Needs.{needs}
+use Rattle.route.proofs.Steps.{included, not-included}
 use Rattle.route.proofs.include.Statement.{statement}
 use Rattle.route.proofs.include.Tie as tie
 
 insert-requires : tie.Need-insert-requires
-insert-requires c κs = search include-low
+insert-requires c κs = search needs
 
 returns : tie.Need-returns
 returns c = search included

@@ -4,8 +4,8 @@ use Rattle.route.proofs.Steps.{leads-is}
 use Rattle.route.proofs.leads.Statement.{statement}
 use Rattle.route.proofs.leads.Tie as tie
 
-search-requires : tie.Need-search-requires
-search-requires c κs = search needs
+search-from-requires : tie.Need-search-from-requires
+search-from-requires c κs = search needs
 
 contains-u64-requires : tie.Need-contains-u64-requires
 contains-u64-requires c κs = search needs
@@ -18,4 +18,4 @@ returns c = search leads-is
 
 pub leads-spec : {M : Type 1} → statement M
 leads-spec =
-    tie.close (tie.spec search-requires contains-u64-requires meet-requires returns)
+    tie.close (tie.spec search-from-requires contains-u64-requires meet-requires returns)

@@ -6,15 +6,16 @@ use borrow.Author.Needs.{needs}
 use Rattle.lists.specs.Numbers.{any}
 use Rattle.lists.proofs.Every.{any-none}
 use Rattle.route.specs.Search.{forkCrosses}
+use Rattle.route.specs.Layout.{laidOut}
 use Rattle.route.proofs.Steps.{any-more, any-all}
 use Rattle.route.proofs.some_fork_crosses.Statement.{statement}
 use Rattle.route.proofs.some_fork_crosses.Tie as tie
 
 abbrev Inv-loop : tie.InvT-loop
-Inv-loop plan barred to forks found₀ x₀ found x = (x ≤ 64) × (found ≡ any x (forkCrosses plan barred to forks))
+Inv-loop first second barred to forks found₀ x₀ found x = (x ≤ 64) × (found ≡ any x (forkCrosses (laidOut first second) barred to forks))
 
 abbrev μ-loop : tie.MeasureT-loop
-μ-loop plan barred to forks found₀ x₀ found x = 64 - x
+μ-loop first second barred to forks found₀ x₀ found x = 64 - x
 
 loop-holds : tie.Need-loop-holds Inv-loop μ-loop
 loop-holds c = (omega arith, sym (any-none _))

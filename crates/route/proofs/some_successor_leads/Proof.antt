@@ -1,34 +1,34 @@
--- `route::some_successor_leads`, by the number of successors: none, one, two.
+-- `route::some_successor_leads`: past the places there is none; below, the two of the layout.
 use borrow.Author.Needs.{needs}
-use Rattle.route.proofs.Steps.{in-none, in-one, in-two}
+use Rattle.route.proofs.Steps.{none-leads, either-leads}
 use Rattle.route.proofs.some_successor_leads.Statement.{statement}
 use Rattle.route.proofs.some_successor_leads.Tie as tie
 
-successors-at-requires : tie.Need-successors-at-requires
-successors-at-requires c κs = search needs
-
 returns : tie.Need-returns
-returns c = search in-none
+returns c = search none-leads
+
+element-copy-out-leads : tie.Need-element-copy-out-leads
+element-copy-out-leads c = search needs
 
 leads-requires : tie.Need-leads-requires
 leads-requires c κs = search needs
 
-returns-2 : tie.Need-returns-2
-returns-2 c = search in-one
+element-copy-out-leads-2 : tie.Need-element-copy-out-leads-2
+element-copy-out-leads-2 c = search needs
 
 leads-requires-2 : tie.Need-leads-requires-2
 leads-requires-2 c κs = search needs
 
-returns-3 : tie.Need-returns-3
-returns-3 c = search in-two
+returns-2 : tie.Need-returns-2
+returns-2 c = search either-leads
 
 pub some-successor-leads-spec : {M : Type 1} → statement M
 some-successor-leads-spec =
     tie.close
     (tie.spec
-    successors-at-requires
     returns
+    element-copy-out-leads
     leads-requires
-    returns-2
+    element-copy-out-leads-2
     leads-requires-2
-    returns-3)
+    returns-2)
