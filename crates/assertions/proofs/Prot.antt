@@ -1,25 +1,28 @@
 -- Rules 18 and 19 at one identifier, one law for each way out; the loops over identifiers and over assertions; and the
 -- two kinds.
-use Prim.Native.Nat.{ℕ, _+_, _≤_, _<_}
+use Prim.Native.Nat.{ℕ, _+_, _^_, _≤_, _<_, min}
 use mathlib.Core.Path.{_≡_, refl, sym, ap, ap₂, subst, _∙_}
 use mathlib.Core.Bool.{Bool, true, false, cond}
+use mathlib.Core.List.{map}
 use native.Mathlib.Omega.{arith}
-use mir.Syntax.{w8, w32}
+use mir.Syntax.{w8}
 use mir.Val.{Fits}
+use lib.ListN.{length}
 use Rattle.lists.specs.Numbers.{any}
 use Rattle.mask.specs.Mask.{has}
+use Rattle.mask.proofs.Width.{has-past}
 use Rattle.plan.specs.declared.Plan.{Plan}
 use Rattle.plan.specs.declared.Kind.the-variants.{Secrecy, Prot}
 use Rattle.plan.specs.declared.Assertion.{Assertion}
 use Rattle.plan.specs.declared.Policy.{Policy}
-use Rattle.plan.specs.Plan.{at, assertionAt}
-use Rattle.plan.specs.Range.{InRange}
+use Rattle.plan.specs.Plan.{blankAssertion, at, assertionAt}
+use Rattle.plan.proofs.Places.{assertion-past}
 use Rattle.route.specs.Search.{splitsTag}
 use Rattle.rules.specs.declared.Verdict.{Verdict}
 use Rattle.rules.specs.declared.Verdict.the-variants.{Accepted}
 use Rattle.rules.specs.Judge.{broken, firstBelow, serves, checkProt, checkAssertion, checkAssertions}
 use Rattle.rules.specs.Broken.{accepted}
-use Rattle.rules.proofs.Walk.{accepted-is, below-none, below-more, below-leaves, below-end}
+use Rattle.rules.proofs.Walk.{broken-accepted, accepted-is, below-none, below-more, below-leaves, below-past, below-alike}
 
 -- ---- one identifier
 
@@ -40,11 +43,17 @@ module _ (plan : Plan) (place : ℕ) (a : Assertion) (t : ℕ) where
   unfolding checkProt
   all = refl
 
-  module _ (l : Bool) (worn : l ≡ has t (at plan (a .source) .lab)) where
+  module _ (lab : ℕ) (of-source : lab ≡ at plan (a .source) .lab) (l : Bool) (asked : l ≡ has t lab) where
+    worn : l ≡ has t (at plan (a .source) .lab)
+    worn = asked ∙ ap (has t) of-source
+
     pub prot-bare : l ≡ false → Accepted ≡ checkProt plan place a t
     prot-bare f = sym (all ∙ ap (λ (y : Bool). tested y K S) (sym worn ∙ f))
 
-    module _ (g : l ≡ true) (k : Bool) (sunk : k ≡ has t (at plan (a .sink) .lab)) where
+    module _ (g : l ≡ true) (low : ℕ) (of-sink : low ≡ at plan (a .sink) .lab) (k : Bool) (seen : k ≡ has t low) where
+      sunk : k ≡ has t (at plan (a .sink) .lab)
+      sunk = seen ∙ ap (has t) of-sink
+
       pub prot-18 : k ≡ false → (r : Verdict) → r ≡ broken 18 place (a .sink) t → r ≡ checkProt plan place a t
       prot-18 f r e = e ∙ sym (all ∙ ap₂ (λ (y w : Bool). tested y w S) (sym worn ∙ g) (sym sunk ∙ f))
 
@@ -60,32 +69,35 @@ module _ (plan : Plan) (place : ℕ) (a : Assertion) (t : ℕ) where
 
 -- ---- all identifiers
 
--- What the loop keeps: the first t are accepted.
-pub record ProtSoFar (plan : Plan) (place : ℕ) (a : Assertion) (t : ℕ) : Type 0 where
-  pub below : t ≤ plan .identifiers
-  pub small : plan .identifiers ≤ 32
+-- What the loop keeps: the first t are accepted. No identifier past the 32 items of a mask is in the source's lab.
+pub record ProtSoFar (plan : Plan) (place : ℕ) (a : Assertion) (n t : ℕ) : Type 0 where
+  pub whole : n ≡ min (plan .identifiers) 32
+  pub below : t ≤ n
   pub so-far : firstBelow t (checkProt plan place a) ≡ Accepted
 
 module _ (plan : Plan) (place : ℕ) (a : Assertion) where
-  pub prot-start : InRange plan → ProtSoFar plan place a 0
-  prot-start range = record { below = omega arith; small = range .identifiers; so-far = below-none (checkProt plan place a) }
+  pub prot-start : (n : ℕ) → n ≡ min (plan .identifiers) 32 → ProtSoFar plan place a n 0
+  prot-start n e = record { whole = e; below = omega arith; so-far = below-none (checkProt plan place a) }
 
-  module _ (t : ℕ) (s : ProtSoFar plan place a t) where
-    pub prot-room : t < plan .identifiers → Fits w32 (t + 1)
-    prot-room h = let l = s .small in omega arith
+  module _ (n t : ℕ) (s : ProtSoFar plan place a n t) where
+    pub prot-room : t < n → Fits w8 (t + 1)
+    prot-room h = let l = s .whole in omega arith
 
-    pub prot-low : t < plan .identifiers → t < 32
-    prot-low h = let l = s .small in omega arith
-
-    module _ (l : t < plan .identifiers) (v : Verdict) (e : v ≡ checkProt plan place a t) (b : Bool) (q : b ≡ accepted v) where
-      pub prot-more : b ≡ true → ProtSoFar plan place a (t + 1)
-      prot-more f = record { below = omega arith; small = s .small; so-far = below-more t (checkProt plan place a) (s .so-far) (sym e ∙ accepted-is v (sym q ∙ f)) }
+    module _ (l : t < n) (v : Verdict) (e : v ≡ checkProt plan place a t) (b : Bool) (q : b ≡ accepted v) where
+      pub prot-more : b ≡ true → ProtSoFar plan place a n (t + 1)
+      prot-more f = record { whole = s .whole; below = omega arith; so-far = below-more t (checkProt plan place a) (s .so-far) (sym e ∙ accepted-is v (sym q ∙ f)) }
 
       pub prot-stop : b ≡ false → v ≡ firstBelow (plan .identifiers) (checkProt plan place a)
-      prot-stop f = below-leaves (plan .identifiers) (checkProt plan place a) t v l (s .so-far) e b q f
+      prot-stop f = let w = s .whole in below-leaves (plan .identifiers) (checkProt plan place a) t v (omega arith) (s .so-far) e b q f
 
-    pub prot-end : plan .identifiers ≤ t → Accepted ≡ firstBelow (plan .identifiers) (checkProt plan place a)
-    prot-end h = below-end (plan .identifiers) (checkProt plan place a) t (s .below) h (s .so-far)
+    module _ (lab : ℕ) (of-source : lab ≡ at plan (a .source) .lab) (small : lab < 2 ^ 32) where
+      past : (u : ℕ) → 32 ≤ u → checkProt plan place a u ≡ Accepted
+      past u h = sym (prot-bare plan place a u lab of-source (has u lab) refl (has-past 32 lab u small h))
+
+      pub prot-end : n ≤ t → Accepted ≡ firstBelow (plan .identifiers) (checkProt plan place a)
+      prot-end h =
+          let q : t ≡ min (plan .identifiers) 32 = omega (arith, s .whole, s .below) in
+          sym (below-past (plan .identifiers) 32 (checkProt plan place a) past (subst (λ (k : ℕ). firstBelow k (checkProt plan place a) ≡ Accepted) q (s .so-far)))
 
 -- ---- one assertion
 
@@ -106,37 +118,52 @@ module _ (plan : Plan) (place : ℕ) (a : Assertion) where
 
 -- ---- all assertions
 
+-- What the loop keeps: the first i are accepted. Past the 32 places stands the blank assertion, and whether it is accepted
+-- does not depend on its place.
 pub record AllSoFar (plan : Plan) (policy : Policy) (k i : ℕ) : Type 0 where
-  pub whole : k ≡ policy .count
+  pub whole : k ≡ min (policy .count) 33
   pub below : i ≤ k
-  pub small : k ≤ 32
   pub so-far : firstBelow i (λ i. checkAssertion plan i (assertionAt policy i) (assertionAt policy i .kind)) ≡ Accepted
 
 module _ (plan : Plan) (policy : Policy) where
   abbrev each : ℕ → Verdict
   each i = checkAssertion plan i (assertionAt policy i) (assertionAt policy i .kind)
 
-  pub all-fits : policy .count ≤ 32 → Fits w8 (policy .count)
-  all-fits h = omega arith
+  pub all-start : (k : ℕ) → k ≡ min (policy .count) 33 → AllSoFar plan policy k 0
+  all-start k e = record { whole = e; below = omega arith; so-far = below-none each }
 
-  pub all-start : policy .count ≤ 32 → AllSoFar plan policy (policy .count) 0
-  all-start h = record { whole = refl; below = omega arith; small = h; so-far = below-none each }
+  blank-alike : (i j : ℕ) → checkAssertion plan i blankAssertion Secrecy ≡ Accepted → checkAssertion plan j blankAssertion Secrecy ≡ Accepted
+  unfolding checkAssertion
+  blank-alike i j e = go (any (plan .identifiers) (serves plan blankAssertion)) e
+    where
+      go : (b : Bool) → cond b Accepted (broken 17 i 0 255) ≡ Accepted → cond b Accepted (broken 17 j 0 255) ≡ Accepted
+      go true e = refl
+      go false e = absurd (broken-accepted e)
+
+  module _ (B : Type 0) (f : Assertion → B) (full : length (map f (policy .assertions)) ≡ 32) where
+    blank-at : (i : ℕ) → 32 ≤ i → each i ≡ checkAssertion plan i blankAssertion Secrecy
+    blank-at i h = ap (λ (a : Assertion). checkAssertion plan i a (a .kind)) (assertion-past B f policy full i h)
+
+    alike : each 32 ≡ Accepted → (i : ℕ) → 32 ≤ i → each i ≡ Accepted
+    alike e i h = blank-at i h ∙ blank-alike 32 i (sym (blank-at 32 (omega arith)) ∙ e)
+
+    pub all-end : (k i : ℕ) → AllSoFar plan policy k i → k ≤ i → Accepted ≡ checkAssertions plan policy
+    unfolding checkAssertions
+    all-end k i s h =
+        let q : i ≡ min (policy .count) 33 = omega (arith, s .whole, s .below) in
+        sym (below-alike (policy .count) 32 each alike (subst (λ (n : ℕ). firstBelow n each ≡ Accepted) q (s .so-far)))
 
   module _ (k i : ℕ) (s : AllSoFar plan policy k i) where
     pub all-room : i < k → Fits w8 (i + 1)
-    all-room h = let l = s .small in omega arith
+    all-room h = let l = s .whole in omega arith
 
     module _ (l : i < k) (a : Assertion) (h : a ≡ assertionAt policy i) (v : Verdict) (e : v ≡ checkAssertion plan i a (a .kind)) (b : Bool) (q : b ≡ accepted v) where
       there : v ≡ each i
       there = e ∙ ap (λ (x : Assertion). checkAssertion plan i x (x .kind)) h
 
       pub all-more : b ≡ true → AllSoFar plan policy k (i + 1)
-      all-more f = record { whole = s .whole; below = omega arith; small = s .small; so-far = below-more i each (s .so-far) (sym there ∙ accepted-is v (sym q ∙ f)) }
+      all-more f = record { whole = s .whole; below = omega arith; so-far = below-more i each (s .so-far) (sym there ∙ accepted-is v (sym q ∙ f)) }
 
       pub all-stop : b ≡ false → v ≡ checkAssertions plan policy
       unfolding checkAssertions
-      all-stop f = below-leaves (policy .count) each i v (subst (λ (n : ℕ). i < n) (s .whole) l) (s .so-far) there b q f
-
-    pub all-end : k ≤ i → Accepted ≡ checkAssertions plan policy
-    unfolding checkAssertions
-    all-end h = below-end (policy .count) each i (subst (λ (n : ℕ). i ≤ n) (s .whole) (s .below)) (subst (λ (n : ℕ). n ≤ i) (s .whole) h) (s .so-far)
+      all-stop f = let w = s .whole in below-leaves (policy .count) each i v (omega arith) (s .so-far) there b q f

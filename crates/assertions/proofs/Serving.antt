@@ -1,31 +1,34 @@
 -- Rule 17's test as the code makes it: one law for each way out.
-use Prim.Native.Nat.{ℕ, _+_, _≤_, _<_}
-use mathlib.Core.Path.{_≡_, refl, sym, ap, ap₂, subst, _∙_}
-use mathlib.Core.Bool.{Bool, true, false, not, _&&_, _||_}
+use Prim.Native.Nat.{ℕ, _+_, _^_, _≤_, _<_, min}
+use mathlib.Core.Path.{_≡_, refl, sym, ap, ap₂, _∙_}
+use mathlib.Core.Bool.{Bool, true, false, not, _&&_, _||_, or-true}
+use mathlib.Core.List.{map}
 use native.Mathlib.Omega.{arith}
-use mir.Syntax.{w8, w32}
+use mir.Syntax.{w8}
 use mir.Val.{Fits}
+use lib.ListN.{length, getD}
 use Rattle.lists.specs.Numbers.{every, any}
-use Rattle.lists.proofs.Every.{every-none, every-more, every-miss, every-end, any-none, any-more, any-hit, any-end}
+use Rattle.lists.proofs.Every.{every-none, every-more, every-miss, every-capped, any-none, any-more, any-hit, any-capped}
 use Rattle.mask.specs.Mask.{has}
+use Rattle.mask.proofs.Items.{has-none}
+use Rattle.mask.proofs.Width.{has-past}
 use Rattle.plan.specs.declared.Template.{Template}
 use Rattle.plan.specs.declared.Plan.{Plan}
 use Rattle.plan.specs.declared.Assertion.{Assertion}
-use Rattle.plan.specs.Plan.{at}
-use Rattle.plan.specs.Range.{InRange}
+use Rattle.plan.specs.Plan.{blank, at}
+use Rattle.plan.proofs.Places.{template-past}
 use Rattle.route.specs.Search.{sharesTag}
 use Rattle.rules.specs.Judge.{serves, wearable}
-use Rattle.assertions.specs.Kept.{keeps}
+use Rattle.assertions.specs.Kept.{spares, keeps}
 
 -- ---- one template
 
-pub keeps-is : (plan : Plan) (declass t X : ℕ) (a : Template) (d n : Bool) → a ≡ at plan X → d ≡ has X declass → n ≡ has t (a .neg)
-    → (d || not n) ≡ keeps plan declass t X
-unfolding keeps
-keeps-is plan declass t X a d n e h k = ap₂ (λ (x y : Bool). x || not y) h (k ∙ ap (λ (x : Template). has t (x .neg)) e)
+pub spares-is : (neg declass t X : ℕ) (d n : Bool) → d ≡ has X declass → n ≡ has t neg → (d || not n) ≡ spares neg declass t X
+unfolding spares
+spares-is neg declass t X d n h k = ap₂ (λ (x y : Bool). x || not y) h k
 
-pub label-is : (plan : Plan) (X t : ℕ) (a : Template) (l : Bool) → a ≡ at plan X → l ≡ has t (a .lab) → l ≡ has t (at plan X .lab)
-label-is plan X t a l e h = h ∙ ap (λ (x : Template). has t (x .lab)) e
+pub label-is : (plan : Plan) (X : ℕ) (a : Template) → a ≡ at plan X → a .lab ≡ at plan X .lab
+label-is plan X a e = ap (λ (x : Template). x .lab) e
 
 pub wearable-is : (plan : Plan) (X t : ℕ) (a : Template) (l p : Bool) → a ≡ at plan X → l ≡ has t (a .lab) → p ≡ has t (a .pos)
     → (l || (a .risk && p)) ≡ wearable plan X t
@@ -37,28 +40,44 @@ wearable-is plan X t a l p e h k =
 
 -- What the loop keeps.
 pub record KeptSoFar (plan : Plan) (declass t n x : ℕ) : Type 0 where
-  pub whole : n ≡ plan .count
+  pub whole : n ≡ min (plan .count) 64
   pub below : x ≤ n
-  pub small : n ≤ 64
   pub so-far : every x (keeps plan declass t) ≡ true
 
 module _ (plan : Plan) (declass t : ℕ) where
-  pub kept-start : InRange plan → KeptSoFar plan declass t (plan .count) 0
-  kept-start range = record { whole = refl; below = omega arith; small = range .templates; so-far = every-none (keeps plan declass t) }
+  pub kept-start : (n : ℕ) → n ≡ min (plan .count) 64 → KeptSoFar plan declass t n 0
+  kept-start n e = record { whole = e; below = omega arith; so-far = every-none (keeps plan declass t) }
 
   module _ (n x : ℕ) (s : KeptSoFar plan declass t n x) where
     pub kept-room : x < n → Fits w8 (x + 1)
-    kept-room h = let l = s .small in omega arith
+    kept-room h = let l = s .whole in omega arith
 
-    module _ (l : x < n) (b : Bool) (e : b ≡ keeps plan declass t x) where
+    pub kept-place : x < n → x < 64
+    kept-place h = let l = s .whole in omega arith
+
+    module _ (l : x < n) (b : Bool) (e : b ≡ spares (getD (plan .templates) x blank .neg) declass t x) where
+      tested : b ≡ keeps plan declass t x
+      unfolding keeps at
+      tested = e
+
       pub kept-more : b ≡ true → KeptSoFar plan declass t n (x + 1)
-      kept-more f = record { whole = s .whole; below = omega arith; small = s .small; so-far = every-more x (keeps plan declass t) (s .so-far) (sym e ∙ f) }
+      kept-more f = record { whole = s .whole; below = omega arith; so-far = every-more x (keeps plan declass t) (s .so-far) (sym tested ∙ f) }
 
       pub kept-not : b ≡ false → false ≡ every (plan .count) (keeps plan declass t)
-      kept-not f = every-miss (plan .count) (keeps plan declass t) x (subst (λ (k : ℕ). x < k) (s .whole) l) (sym e ∙ f)
+      kept-not f = let w = s .whole in every-miss (plan .count) (keeps plan declass t) x (omega arith) (sym tested ∙ f)
 
-    pub kept-all : n ≤ x → true ≡ every (plan .count) (keeps plan declass t)
-    kept-all h = every-end (plan .count) (keeps plan declass t) x (subst (λ (k : ℕ). x ≤ k) (s .whole) (s .below)) (subst (λ (k : ℕ). k ≤ x) (s .whole) h) (s .so-far)
+    -- Past the places no template removes anything.
+    module _ (B : Type 0) (f : Template → B) (full : length (map f (plan .templates)) ≡ 64) where
+      kept-past : (X : ℕ) → 64 ≤ X → keeps plan declass t X ≡ true
+      unfolding keeps spares
+      kept-past X h =
+          ap (λ (a : Template). has X declass || not (has t (a .neg))) (template-past B f plan full X h)
+          ∙ ap (λ (b : Bool). has X declass || not b) (has-none t) ∙ or-true (has X declass)
+
+      pub kept-all : n ≤ x → true ≡ every (plan .count) (keeps plan declass t)
+      kept-all h =
+          let q : x ≡ min (plan .count) 64 = omega (arith, s .whole, s .below) in
+          sym (s .so-far) ∙ ap (λ (k : ℕ). every k (keeps plan declass t)) q ∙ every-capped (plan .count) 64 (keeps plan declass t) kept-past
 
 -- ---- one identifier
 
@@ -79,10 +98,13 @@ module _ (plan : Plan) (a : Assertion) (t : ℕ) where
   S = sharesTag plan t (a .source) (a .sink) (a .anc)
 
   all : serves plan a t ≡ served L K W S
-  unfolding serves keeps
+  unfolding serves keeps spares
   all = refl
 
-  module _ (l : Bool) (worn : l ≡ has t (at plan (a .source) .lab)) where
+  module _ (lab : ℕ) (of-source : lab ≡ at plan (a .source) .lab) (l : Bool) (asked : l ≡ has t lab) where
+    worn : l ≡ has t (at plan (a .source) .lab)
+    worn = asked ∙ ap (has t) of-source
+
     pub serves-bare : l ≡ false → false ≡ serves plan a t
     serves-bare f = sym (all ∙ ap (λ (y : Bool). served y K W S) (sym worn ∙ f))
 
@@ -101,26 +123,32 @@ module _ (plan : Plan) (a : Assertion) (t : ℕ) where
 
 -- ---- all identifiers
 
--- What the loop keeps: none of the first t serves.
-pub record NoneServes (plan : Plan) (a : Assertion) (t : ℕ) : Type 0 where
-  pub below : t ≤ plan .identifiers
-  pub small : plan .identifiers ≤ 32
+-- What the loop keeps: none of the first t serves. No identifier past the 32 items of a mask is in the source's lab.
+pub record NoneServes (plan : Plan) (a : Assertion) (n t : ℕ) : Type 0 where
+  pub whole : n ≡ min (plan .identifiers) 32
+  pub below : t ≤ n
   pub so-far : any t (serves plan a) ≡ false
 
 module _ (plan : Plan) (a : Assertion) where
-  pub none-start : InRange plan → NoneServes plan a 0
-  none-start range = record { below = omega arith; small = range .identifiers; so-far = any-none (serves plan a) }
+  pub none-start : (n : ℕ) → n ≡ min (plan .identifiers) 32 → NoneServes plan a n 0
+  none-start n e = record { whole = e; below = omega arith; so-far = any-none (serves plan a) }
 
-  module _ (t : ℕ) (s : NoneServes plan a t) where
-    pub none-room : t < plan .identifiers → Fits w32 (t + 1)
-    none-room h = let l = s .small in omega arith
+  module _ (n t : ℕ) (s : NoneServes plan a n t) where
+    pub none-room : t < n → Fits w8 (t + 1)
+    none-room h = let l = s .whole in omega arith
 
-    module _ (l : t < plan .identifiers) (b : Bool) (e : b ≡ serves plan a t) where
-      pub none-more : b ≡ false → NoneServes plan a (t + 1)
-      none-more f = record { below = omega arith; small = s .small; so-far = any-more t (serves plan a) (s .so-far) (sym e ∙ f) }
+    module _ (l : t < n) (b : Bool) (e : b ≡ serves plan a t) where
+      pub none-more : b ≡ false → NoneServes plan a n (t + 1)
+      none-more f = record { whole = s .whole; below = omega arith; so-far = any-more t (serves plan a) (s .so-far) (sym e ∙ f) }
 
       pub one-serves : b ≡ true → true ≡ any (plan .identifiers) (serves plan a)
-      one-serves f = any-hit (plan .identifiers) (serves plan a) t l (sym e ∙ f)
+      one-serves f = let w = s .whole in any-hit (plan .identifiers) (serves plan a) t (omega arith) (sym e ∙ f)
 
-    pub none-serves : plan .identifiers ≤ t → false ≡ any (plan .identifiers) (serves plan a)
-    none-serves h = any-end (plan .identifiers) (serves plan a) t (s .below) h (s .so-far)
+    module _ (lab : ℕ) (of-source : lab ≡ at plan (a .source) .lab) (small : lab < 2 ^ 32) where
+      past : (u : ℕ) → 32 ≤ u → serves plan a u ≡ false
+      past u h = sym (serves-bare plan a u lab of-source (has u lab) refl (has-past 32 lab u small h))
+
+      pub none-serves : n ≤ t → false ≡ any (plan .identifiers) (serves plan a)
+      none-serves h =
+          let q : t ≡ min (plan .identifiers) 32 = omega (arith, s .whole, s .below) in
+          sym (s .so-far) ∙ ap (λ (k : ℕ). any k (serves plan a)) q ∙ any-capped (plan .identifiers) 32 (serves plan a) past

@@ -6,5 +6,8 @@ use Rattle.mask.specs.Mask.{has}
 use Rattle.plan.specs.declared.Plan.{Plan}
 use Rattle.plan.specs.Plan.{at}
 
+unfoldable pub spares : ℕ → ℕ → ℕ → ℕ → Bool
+spares neg declass t X = has X declass || not (has t neg)
+
 unfoldable pub keeps : Plan → ℕ → ℕ → ℕ → Bool
-keeps plan declass t X = has X declass || not (has t (at plan X .neg))
+keeps plan declass t X = spares (at plan X .neg) declass t X

@@ -1,4 +1,4 @@
-// Rules 17 to 19 over a plan and a policy that were read. A tag relation is asked only where the labels leave the
+// Rules 17 to 19 over a plan and a policy. A tag relation is asked only where the labels leave the
 // question open, and its routes are searched anew for each identifier of each assertion.
 use plan::Assertion;
 use plan::Kind;
@@ -7,31 +7,27 @@ use plan::Policy;
 use rules::Breach;
 use rules::Verdict;
 ghost use mathlib.Core.Path.{_≡_};
-ghost use Prim.Native.Nat.{_≤_, _<_};
 ghost use Rattle.lists.specs.Numbers.{every, any};
-ghost use Rattle.mask.specs.Mask.{has};
 ghost use Rattle.plan.specs.Plan.{at};
-ghost use Rattle.plan.specs.Range.{InRange};
 ghost use Rattle.rules.specs.Judge.{firstBelow, serves, checkProt, checkAssertion, checkAssertions, wearable};
-ghost use Rattle.assertions.specs.Kept.{keeps};
+ghost use Rattle.assertions.specs.Kept.{spares, keeps};
 
-// Whether template x is in declass or may not remove t.
-fn keeps(plan: Plan, declass: u64, t: u32, x: u8) -> bool
-    ensures { λ r. ⌜ r ≡ keeps plan declass t x ⌝ }
+// Whether template x, which may remove what is in neg, is in declass or may not remove t.
+fn keeps(neg: u32, declass: u64, t: u32, x: u8) -> bool
+    ensures { λ r. ⌜ r ≡ spares neg declass t x ⌝ }
 {
-    let template = plan::template_at(plan, x);
-    mask::contains_u64(declass, x) | !mask::contains_u32(template.neg, t)
+    mask::contains_u64(declass, x) | !mask::contains_u32(neg, t)
 }
 
 // Whether t is in no neg of a template outside declass.
 fn is_kept(plan: Plan, declass: u64, t: u32) -> bool
-    requires { ⌜ InRange plan ⌝ }
     ensures { λ r. ⌜ r ≡ every (plan .count) (keeps plan declass t) ⌝ }
 {
-    let n = plan.count as u8;
+    let n = plan::capped(plan.count, 64);
     let mut x: u8 = 0;
     while x < n {
-        if !keeps(plan, declass, t, x) {
+        let template = plan.templates[x as usize];
+        if !keeps(template.neg, declass, t, x) {
             return false;
         }
         x += 1;
@@ -39,12 +35,12 @@ fn is_kept(plan: Plan, declass: u64, t: u32) -> bool
     true
 }
 
-// Whether t is in lab x.
-fn in_label(plan: Plan, x: u8, t: u32) -> bool
-    ensures { λ r. ⌜ r ≡ has t (at plan x .lab) ⌝ }
+// lab x.
+fn label_of(plan: Plan, x: u8) -> u32
+    ensures { λ r. ⌜ r ≡ at plan x .lab ⌝ }
 {
     let template = plan::template_at(plan, x);
-    mask::contains_u32(template.lab, t)
+    template.lab
 }
 
 // Whether t is in lab x, with pos x added if x is at risk.
@@ -55,12 +51,12 @@ fn is_wearable(plan: Plan, x: u8, t: u32) -> bool
     mask::contains_u32(template.lab, t) | (template.risk & mask::contains_u32(template.pos, t))
 }
 
-// Rule 17's identifier t.
-fn identifier_serves(plan: Plan, a: Assertion, t: u32) -> bool
-    requires { ⌜ InRange plan ⌝ }
+// Rule 17's identifier t; worn is the source's lab.
+fn identifier_serves(plan: Plan, a: Assertion, worn: u32, t: u32) -> bool
+    requires { ⌜ worn ≡ at plan (a .source) .lab ⌝ }
     ensures { λ r. ⌜ r ≡ serves plan a t ⌝ }
 {
-    if !in_label(plan, a.source, t) {
+    if !mask::contains_u32(worn, t) {
         return false;
     }
     if !is_kept(plan, a.declass, t) {
@@ -74,13 +70,13 @@ fn identifier_serves(plan: Plan, a: Assertion, t: u32) -> bool
 
 // Whether some identifier serves.
 fn some_serves(plan: Plan, a: Assertion) -> bool
-    requires { ⌜ InRange plan ⌝ }
     ensures { λ r. ⌜ r ≡ any (plan .identifiers) (serves plan a) ⌝ }
 {
-    let m = plan.identifiers;
-    let mut t: u32 = 0;
+    let m = plan::capped(plan.identifiers as usize, 32);
+    let worn = label_of(plan, a.source);
+    let mut t: u8 = 0;
     while t < m {
-        if identifier_serves(plan, a, t) {
+        if identifier_serves(plan, a, worn, t as u32) {
             return true;
         }
         t += 1;
@@ -88,28 +84,28 @@ fn some_serves(plan: Plan, a: Assertion) -> bool
     false
 }
 
-// 18 and 19 of a prot, at identifier t.
-fn check_prot_at(plan: Plan, place: u8, a: Assertion, t: u32) -> Verdict
-    requires { ⌜ t < 32 ⌝ }
+// 18 and 19 of a prot, at identifier t; worn is the source's lab.
+fn check_prot_at(plan: Plan, place: u8, a: Assertion, worn: u32, t: u8) -> Verdict
+    requires { ⌜ worn ≡ at plan (a .source) .lab ⌝ }
     ensures { λ r. ⌜ r ≡ checkProt plan place a t ⌝ }
 {
-    if !in_label(plan, a.source, t) {
+    if !mask::contains_u32(worn, t as u32) {
         return Verdict::Accepted;
     }
-    if !in_label(plan, a.sink, t) {
+    if !mask::contains_u32(label_of(plan, a.sink), t as u32) {
         return Verdict::Broken(Breach {
             rule: 18,
             first: place,
             second: a.sink,
-            identifier: t as u8,
+            identifier: t,
         });
     }
-    if route::splits_tag(plan, t, a.source, a.sink, a.anc) {
+    if route::splits_tag(plan, t as u32, a.source, a.sink, a.anc) {
         return Verdict::Broken(Breach {
             rule: 19,
             first: place,
             second: a.sink,
-            identifier: t as u8,
+            identifier: t,
         });
     }
     Verdict::Accepted
@@ -117,13 +113,13 @@ fn check_prot_at(plan: Plan, place: u8, a: Assertion, t: u32) -> Verdict
 
 // Identifiers rising, 18 and 19 of each before the next.
 fn check_prot(plan: Plan, place: u8, a: Assertion) -> Verdict
-    requires { ⌜ InRange plan ⌝ }
     ensures { λ r. ⌜ r ≡ firstBelow (plan .identifiers) (checkProt plan place a) ⌝ }
 {
-    let m = plan.identifiers;
-    let mut t: u32 = 0;
+    let m = plan::capped(plan.identifiers as usize, 32);
+    let worn = label_of(plan, a.source);
+    let mut t: u8 = 0;
     while t < m {
-        let v = check_prot_at(plan, place, a, t);
+        let v = check_prot_at(plan, place, a, worn, t);
         if !rules::is_accepted(v) {
             return v;
         }
@@ -134,7 +130,6 @@ fn check_prot(plan: Plan, place: u8, a: Assertion) -> Verdict
 
 // The assertion at a place, by its kind.
 pub fn check_assertion(plan: Plan, place: u8, a: Assertion) -> Verdict
-    requires { ⌜ InRange plan ⌝ }
     ensures { λ r. ⌜ r ≡ checkAssertion plan place a (a .kind) ⌝ }
 {
     let kind = a.kind;
@@ -154,12 +149,11 @@ pub fn check_assertion(plan: Plan, place: u8, a: Assertion) -> Verdict
     }
 }
 
-// All assertions in order.
+// All assertions in order. Past the 32 places all are blank, and alike: the first of them is enough.
 pub fn check_assertions(plan: Plan, policy: Policy) -> Verdict
-    requires { ⌜ InRange plan × (policy .count ≤ 32) ⌝ }
     ensures { λ r. ⌜ r ≡ checkAssertions plan policy ⌝ }
 {
-    let k = policy.count as u8;
+    let k = plan::capped(policy.count, 33);
     let mut i: u8 = 0;
     while i < k {
         let a = plan::assertion_at(policy, i as usize);

@@ -2,21 +2,23 @@
 use Prim.Native.Nat.{ℕ, zero, suc, _+_, _≤_, _<_}
 use mathlib.Core.Path.{_≡_, refl, sym, ap, subst, _∙_}
 use mathlib.Core.Bool.{Bool, true, false}
-use mathlib.Core.List.{List, [], _∷_}
+use mathlib.Core.List.{List, [], _∷_, map}
 use native.Mathlib.Omega.{arith}
 use mir.Syntax.{w8}
 use mir.Val.{Fits}
+use lib.ListN.{length}
 use Rattle.plan.specs.declared.Plan.{Plan}
 use Rattle.plan.specs.declared.Template.{Template}
 use Rattle.plan.specs.declared.Successors.{Successors}
 use Rattle.plan.specs.Plan.{at, successors}
 use Rattle.plan.specs.Listed.{listFor, listed}
-use Rattle.plan.specs.Range.{InRange}
+use Rattle.plan.proofs.Places.{template-past}
 use Rattle.rules.specs.declared.Verdict.{Verdict}
 use Rattle.rules.specs.declared.Verdict.the-variants.{Accepted, Broken, Unread}
 use Rattle.rules.specs.Judge.{orElse, firstBelow, firstIn, checkEdge, checkEdges}
 use Rattle.rules.specs.Broken.{accepted}
-use Rattle.rules.proofs.Walk.{accepted-is, below-none, below-more, below-leaves, below-end}
+use Rattle.rules.proofs.Walk.{accepted-is, below-none, below-more, below-leaves, below-past}
+use Rattle.edges.specs.Wide.{placed}
 
 or-last : (v : Verdict) → orElse v Accepted ≡ v
 unfolding orElse
@@ -53,30 +55,37 @@ module _ (plan : Plan) (X : ℕ) (f : ℕ → Verdict) (a : Template) (k : a ≡
 
 -- What the loop keeps: the edges of the first x templates are accepted.
 pub record Passed (plan : Plan) (n x : ℕ) : Type 0 where
-  pub whole : n ≡ plan .count
+  pub whole : n ≡ placed plan
   pub below : x ≤ n
-  pub small : n ≤ 64
   pub so-far : firstBelow x (λ X. firstIn (successors (at plan X .form)) (checkEdge plan X)) ≡ Accepted
 
 module _ (plan : Plan) where
   abbrev each : ℕ → Verdict
   each X = firstIn (successors (at plan X .form)) (checkEdge plan X)
 
-  pub edges-start : InRange plan → Passed plan (plan .count) 0
-  edges-start range = record { whole = refl; below = omega arith; small = range .templates; so-far = below-none each }
+  pub edges-start : (n : ℕ) → n ≡ placed plan → Passed plan n 0
+  edges-start n e = record { whole = e; below = omega arith; so-far = below-none each }
+
+  -- Past the places no template has an edge.
+  module _ (B : Type 0) (f : Template → B) (full : length (map f (plan .templates)) ≡ 64) where
+    edgeless : (X : ℕ) → 64 ≤ X → each X ≡ Accepted
+    unfolding successors firstIn
+    edgeless X h = ap (λ (a : Template). firstIn (successors (a .form)) (checkEdge plan X)) (template-past B f plan full X h)
+
+    pub edges-end : (n x : ℕ) → Passed plan n x → n ≤ x → Accepted ≡ checkEdges plan
+    unfolding checkEdges
+    edges-end n x p h =
+        let q : x ≡ placed plan = omega (arith, p .whole, p .below) in
+        sym (below-past (plan .count) 64 each edgeless (subst (λ (k : ℕ). firstBelow k each ≡ Accepted) q (p .so-far)))
 
   module _ (n x : ℕ) (p : Passed plan n x) where
     pub edges-room : x < n → Fits w8 (x + 1)
-    edges-room h = let s = p .small in omega arith
+    edges-room h = let s = p .whole in omega arith
 
     module _ (l : x < n) (v : Verdict) (e : v ≡ each x) (a : Bool) (t : a ≡ accepted v) where
       pub edges-hit : a ≡ false → v ≡ checkEdges plan
       unfolding checkEdges
-      edges-hit f = below-leaves (plan .count) each x v (subst (λ (k : ℕ). x < k) (p .whole) l) (p .so-far) e a t f
+      edges-hit f = let s = p .whole in below-leaves (plan .count) each x v (omega arith) (p .so-far) e a t f
 
       pub edges-more : a ≡ true → Passed plan n (x + 1)
-      edges-more f = record { whole = p .whole; below = omega arith; small = p .small; so-far = below-more x each (p .so-far) (sym e ∙ accepted-is v (sym t ∙ f)) }
-
-    pub edges-end : n ≤ x → Accepted ≡ checkEdges plan
-    unfolding checkEdges
-    edges-end h = below-end (plan .count) each x (subst (λ (k : ℕ). x ≤ k) (p .whole) (p .below)) (subst (λ (k : ℕ). k ≤ x) (p .whole) h) (p .so-far)
+      edges-more f = record { whole = p .whole; below = omega arith; so-far = below-more x each (p .so-far) (sym e ∙ accepted-is v (sym t ∙ f)) }

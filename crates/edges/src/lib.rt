@@ -1,4 +1,5 @@
-// Rules 11 to 16 over a plan that was read.
+// Rules 11 to 16 over a plan. A count past the 64 places or an identifier past the 32 items of a mask is met as the
+// definitions meet it: blank templates and empty masks break nothing.
 use plan::Plan;
 use plan::Template;
 use rules::Breach;
@@ -7,7 +8,6 @@ ghost use mathlib.Core.Path.{_≡_};
 ghost use lib.Dec.{ltb};
 ghost use Rattle.mask.specs.Mask.{has};
 ghost use Rattle.plan.specs.Plan.{at, successors};
-ghost use Rattle.plan.specs.Range.{InRange};
 ghost use Rattle.rules.specs.Judge.{firstIn, nextCreator, check11, checkEdge, checkEdges, offends12, offends13, offends14, offends15, offends16};
 ghost use Rattle.edges.specs.Wide.{Marks, offence, rightsOf, edgeOf, creatorFrom};
 
@@ -48,12 +48,15 @@ pub fn offenders_16(lab: u32, y: Template) -> u32
     y.creates & lab
 }
 
-// Broken at the lowest of the offenders, where there is one.
-fn check_offenders(offenders: u32, rule: u8, x: u8, y: u8) -> Verdict
-    ensures { λ r. ⌜ r ≡ offence rule x y (λ i. has i offenders) ⌝ }
+// Broken at the lowest of the offenders below the limit, where there is one.
+fn check_offenders(limit: u32, offenders: u32, rule: u8, x: u8, y: u8) -> Verdict
+    ensures { λ r. ⌜ r ≡ offence limit rule x y (λ i. has i offenders) ⌝ }
 {
     let i = mask::lowest_item(offenders);
     if 32 <= i {
+        return Verdict::Accepted;
+    }
+    if limit <= i {
         return Verdict::Accepted;
     }
     Verdict::Broken(Breach {
@@ -65,34 +68,38 @@ fn check_offenders(offenders: u32, rule: u8, x: u8, y: u8) -> Verdict
 }
 
 // 14 to 16 in order, on the edge from template x, which is a, to template y, which is b.
-fn check_rights(a: Template, b: Template, x: u8, y: u8) -> Verdict
-    ensures { λ r. ⌜ r ≡ rightsOf a b x y ⌝ }
+fn check_rights(limit: u32, a: Template, b: Template, x: u8, y: u8) -> Verdict
+    ensures { λ r. ⌜ r ≡ rightsOf limit a b x y ⌝ }
 {
-    let v14 = check_offenders(offenders_14(a, b), 14, x, y);
-    let v15 = check_offenders(offenders_15(a, b), 15, x, y);
-    let v16 = check_offenders(offenders_16(a.lab, b), 16, x, y);
+    let v14 = check_offenders(limit, offenders_14(a, b), 14, x, y);
+    let v15 = check_offenders(limit, offenders_15(a, b), 15, x, y);
+    let v16 = check_offenders(limit, offenders_16(a.lab, b), 16, x, y);
     rules::or_else(v14, rules::or_else(v15, v16))
 }
 
 // 12 to 16 in order.
-fn check_templates(a: Template, b: Template, x: u8, y: u8) -> Verdict
-    ensures { λ r. ⌜ r ≡ edgeOf a b x y ⌝ }
+fn check_templates(limit: u32, a: Template, b: Template, x: u8, y: u8) -> Verdict
+    ensures { λ r. ⌜ r ≡ edgeOf limit a b x y ⌝ }
 {
-    let v12 = check_offenders(offenders_12(a.lab, b), 12, x, y);
-    let v13 = check_offenders(offenders_13(a.lab, b), 13, x, y);
-    rules::or_else(v12, rules::or_else(v13, check_rights(a, b, x, y)))
+    let v12 = check_offenders(limit, offenders_12(a.lab, b), 12, x, y);
+    let v13 = check_offenders(limit, offenders_13(a.lab, b), 13, x, y);
+    rules::or_else(v12, rules::or_else(v13, check_rights(limit, a, b, x, y)))
 }
 
 pub fn check_edge(plan: Plan, x: u8, y: u8) -> Verdict
-    requires { ⌜ InRange plan ⌝ }
     ensures { λ r. ⌜ r ≡ checkEdge plan x y ⌝ }
 {
-    check_templates(plan::template_at(plan, x), plan::template_at(plan, y), x, y)
+    check_templates(
+        plan.identifiers,
+        plan::template_at(plan, x),
+        plan::template_at(plan, y),
+        x,
+        y,
+    )
 }
 
 // The edges from x, in form order.
 fn check_edges_from(plan: Plan, x: u8) -> Verdict
-    requires { ⌜ InRange plan ⌝ }
     ensures { λ r. ⌜ r ≡ firstIn (successors (at plan x .form)) (checkEdge plan x) ⌝ }
 {
     let template = plan::template_at(plan, x);
@@ -110,10 +117,9 @@ fn check_edges_from(plan: Plan, x: u8) -> Verdict
 
 // X rising.
 pub fn check_edges(plan: Plan) -> Verdict
-    requires { ⌜ InRange plan ⌝ }
     ensures { λ r. ⌜ r ≡ checkEdges plan ⌝ }
 {
-    let n = plan.count as u8;
+    let n = plan::capped(plan.count, 64);
     let mut x: u8 = 0;
     while x < n {
         let v = check_edges_from(plan, x);
@@ -127,15 +133,14 @@ pub fn check_edges(plan: Plan) -> Verdict
 
 // The identifiers that two templates create: each is in what an earlier template created.
 fn created_twice(plan: Plan) -> u32
-    requires { ⌜ InRange plan ⌝ }
     ensures { λ r. ⌜ Marks r (λ t. ltb (nextCreator plan t) (plan .count)) ⌝ }
 {
-    let n = plan.count as u8;
+    let n = plan::capped(plan.count, 64);
     let mut once: u32 = 0;
     let mut twice: u32 = 0;
     let mut x: u8 = 0;
     while x < n {
-        let template = plan::template_at(plan, x);
+        let template = plan.templates[x as usize];
         twice = twice | (once & template.creates);
         once = once | template.creates;
         x += 1;
@@ -143,15 +148,14 @@ fn created_twice(plan: Plan) -> u32
     twice
 }
 
-// The lowest template from the given one on that creates t, and the plan's count where there is none.
+// The lowest template from the given one on that creates t, and the number of templates where there is none.
 fn creator_from(plan: Plan, t: u32, from: u8) -> u8
-    requires { ⌜ InRange plan ⌝ }
     ensures { λ r. ⌜ r ≡ creatorFrom plan from t ⌝ }
 {
-    let n = plan.count as u8;
+    let n = plan::capped(plan.count, 64);
     let mut x = from;
     while x < n {
-        let template = plan::template_at(plan, x);
+        let template = plan.templates[x as usize];
         if mask::contains_u32(template.creates, t) {
             return x;
         }
@@ -162,11 +166,13 @@ fn creator_from(plan: Plan, t: u32, from: u8) -> u8
 
 // 11: the lowest identifier that is created twice, and its two lowest creators.
 pub fn check_11(plan: Plan) -> Verdict
-    requires { ⌜ InRange plan ⌝ }
     ensures { λ r. ⌜ r ≡ check11 plan ⌝ }
 {
     let t = mask::lowest_item(created_twice(plan));
     if 32 <= t {
+        return Verdict::Accepted;
+    }
+    if plan.identifiers <= t {
         return Verdict::Accepted;
     }
     let x = creator_from(plan, t, 0);

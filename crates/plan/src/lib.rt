@@ -1,5 +1,6 @@
 // A plan and a policy as they are after reading, and what stands at a place of them.
 ghost use mathlib.Core.Path.{_≡_};
+ghost use Prim.Native.Nat.{min};
 ghost use Rattle.plan.specs.Plan.{at, successors, assertionAt};
 ghost use Rattle.plan.specs.Listed.{listed};
 
@@ -53,6 +54,16 @@ pub struct Successors {
     pub count: u8,
     pub first: u8,
     pub second: u8,
+}
+
+// A count, cut at a limit: past the places of an array its count says nothing new.
+pub fn capped(count: usize, limit: u8) -> u8
+    ensures { λ r. ⌜ r ≡ min count limit ⌝ }
+{
+    if count < limit as usize {
+        return count as u8;
+    }
+    limit
 }
 
 // The template of that number, blank where the plan has no place for it.

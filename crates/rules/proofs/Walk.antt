@@ -1,6 +1,6 @@
 -- Walks that stop at the first verdict that is not accepted: what it means that one ends accepted, that one ends
 -- broken, and the turns of a loop that makes one.
-use Prim.Native.Nat.{ℕ, zero, suc, _+_, _≤_, _<_, suc-le-suc}
+use Prim.Native.Nat.{ℕ, zero, suc, _+_, _≤_, _<_, suc-le-suc, min}
 use mathlib.Core.Path.{_≡_, refl, sym, ap, subst, _∙_}
 use mathlib.Core.Bool.{Bool, true, false, cond, false≢true}
 use mathlib.Core.Logic.{_⊎_, inl, inr, ⊎-elim}
@@ -8,11 +8,8 @@ use mathlib.Core.List.{List, [], _∷_, _++_}
 use native.Mathlib.Nat.{not-suc-le-zero, le-of-suc-le-suc, zero-lt-suc, eq-or-lt-of-le}
 use native.Mathlib.Numerals.{add-one}
 use native.Mathlib.Omega.{arith}
-use mir.Syntax.{w8}
-use mir.Val.{Fits}
-use Rattle.plan.specs.declared.Plan.{Plan}
+use Rattle.lists.proofs.Tests.{lt-or-le}
 use Rattle.plan.specs.Plan.{Among}
-use Rattle.plan.specs.Range.{InRange}
 use Rattle.rules.specs.Judge.{Fault, Breach, Verdict, Accepted, Broken, Unread, orElse, firstBelow, firstIn}
 use Rattle.rules.specs.Broken.{accepted}
 
@@ -186,6 +183,16 @@ below-broken n f i b h a e = sym (first-at n f i h a (ap accepted e)) ∙ e
 pub below-end : (n : ℕ) (f : ℕ → Verdict) (i : ℕ) → i ≤ n → n ≤ i → firstBelow i f ≡ Accepted → Accepted ≡ firstBelow n f
 below-end n f i l g e = let q : i ≡ n = omega arith in sym (subst (λ (k : ℕ). firstBelow k f ≡ Accepted) q e)
 
+-- A walk cut at k ran to the end: from k on each is accepted,
+pub below-past : (n k : ℕ) (f : ℕ → Verdict) → ((i : ℕ) → k ≤ i → f i ≡ Accepted) → firstBelow (min n k) f ≡ Accepted → firstBelow n f ≡ Accepted
+below-past n k f past e = below-all n f (λ i l. ⊎-elim (λ h. below-each (min n k) f e i (omega arith)) (past i) (lt-or-le i k))
+
+-- or each is where that at k is, and the walk was cut after k.
+pub below-alike : (n k : ℕ) (f : ℕ → Verdict) → (f k ≡ Accepted → (i : ℕ) → k ≤ i → f i ≡ Accepted) → firstBelow (min n (suc k)) f ≡ Accepted
+    → firstBelow n f ≡ Accepted
+below-alike n k f alike e =
+    below-all n f (λ i l. ⊎-elim (λ h. below-each (min n (suc k)) f e i (omega arith)) (λ h. alike (below-each (min n (suc k)) f e k (omega arith)) i h) (lt-or-le i k))
+
 -- ---- a list
 
 pub in-each : (l : List ℕ) (f : ℕ → Verdict) → firstIn l f ≡ Accepted → (Y : ℕ) → Among Y l → f Y ≡ Accepted
@@ -233,8 +240,3 @@ pub in-decided : (l : List ℕ) (f : ℕ → Verdict) → ((Y : ℕ) → Decided
 unfolding firstIn
 in-decided [] f d = tt
 in-decided (X ∷ l) f d = or-decided (f X) (firstIn l f) (d X) (in-decided l f d)
-
--- ---- a loop over templates counts in a byte
-
-pub count-fits : (plan : Plan) → InRange plan → Fits w8 (plan .count)
-count-fits plan range = let l = range .templates in omega arith

@@ -1,5 +1,5 @@
 -- The ways through the judge, as the code meets them: each callee's answer is a variable.
-use Prim.Native.Nat.{ℕ, _≤_}
+use Prim.Native.Nat.{ℕ}
 use mathlib.Core.Path.{_≡_, sym, ap, subst, _∙_}
 use mathlib.Core.Bool.{Bool, true, false}
 use mathlib.Core.List.{List}
@@ -12,7 +12,7 @@ use Rattle.text.specs.declared.Reading.the-variants.{Complete, Refused}
 use Rattle.text.specs.declared.PlanRead.{PlanRead}
 use Rattle.text.specs.declared.PolicyRead.{PolicyRead}
 use Rattle.text.specs.Reading.{readPlan, readPolicy}
-use Rattle.reader.proofs.Range.{plan-in-range, policy-in-range}
+use Rattle.reader.proofs.Range.{plan-in-range}
 use Rattle.rules.specs.declared.Text.the-variants.{Plan as PlanText, Policy as PolicyText}
 use Rattle.rules.specs.declared.Verdict.{Verdict}
 use Rattle.rules.specs.Judge.{orElse, check11, checkEdges, checkAssertions, judgeRead, afterReading, judge}
@@ -45,11 +45,6 @@ module _ (plan : Plan) (policy : Policy) (v : Verdict) (e : v ≡ check11 plan) 
 -- ---- the policy
 
 module _ (plan : Plan) (text : List ℕ) (p : PolicyRead) (e : p ≡ readPolicy (plan .count) text) where
-  pub policy-small : p .answer ≡ Complete → p .policy .count ≤ 32
-  policy-small h =
-      subst (λ (x : PolicyRead). x .policy .count ≤ 32) (sym e)
-      (policy-in-range (plan .count) text (sym (ap (λ (x : PolicyRead). x .answer) e) ∙ h) .assertions)
-
   over : (r : Reading) → p .answer ≡ r → judgeOver plan text ≡ afterReading PolicyText r (judgeRead plan (p .policy))
   unfolding judgeOver
   over r h =

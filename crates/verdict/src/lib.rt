@@ -7,14 +7,12 @@ use rules::Verdict;
 use text::Reading;
 use text::Refusal;
 ghost use mathlib.Core.Path.{_≡_};
-ghost use Prim.Native.Nat.{_≤_};
 ghost use Rattle.plan.specs.Range.{InRange};
 ghost use Rattle.rules.specs.Judge.{judgeRead, judge};
 ghost use Rattle.verdict.specs.Over.{unread, judgeOver};
 
 // 11, then the edges, then the assertions.
 fn judge_read(plan: Plan, policy: Policy) -> Verdict
-    requires { ⌜ InRange plan × (policy .count ≤ 32) ⌝ }
     ensures { λ r. ⌜ r ≡ judgeRead plan policy ⌝ }
 {
     let v = edges::check_11(plan);

@@ -1,7 +1,7 @@
 -- So far each assertion is accepted.
 use Prim.Native.Nat.{_-_}
 use borrow.Author.Tests.{not-true, not-false}
-use Rattle.assertions.proofs.Prot.{AllSoFar, all-fits, all-start, all-room, all-more, all-stop, all-end}
+use Rattle.assertions.proofs.Prot.{AllSoFar, all-start, all-room, all-more, all-stop, all-end}
 use native.Mathlib.Omega.{arith}
 use borrow.Author.Needs.{needs}
 use Rattle.assertions.proofs.check_assertions.Statement.{statement}
@@ -13,8 +13,8 @@ Inv-loop plan policy k i₀ i = AllSoFar plan policy k i
 abbrev μ-loop : tie.MeasureT-loop
 μ-loop plan policy k i₀ i = k - i
 
-cast-k : tie.Need-cast-k Inv-loop μ-loop
-cast-k c = search all-fits
+capped-requires : tie.Need-capped-requires Inv-loop μ-loop
+capped-requires c κs = search needs
 
 loop-holds : tie.Need-loop-holds Inv-loop μ-loop
 loop-holds c = search all-start
@@ -52,7 +52,7 @@ check-assertions-spec =
     (tie.spec
     Inv-loop
     μ-loop
-    cast-k
+    capped-requires
     loop-holds
     cast-assertion-at
     assertion-at-requires

@@ -1,23 +1,32 @@
 -- So far each identifier is accepted.
 use Prim.Native.Nat.{_-_}
 use borrow.Author.Tests.{not-true, not-false}
-use Rattle.assertions.proofs.Prot.{ProtSoFar, prot-start, prot-room, prot-low, prot-more, prot-stop, prot-end}
 use native.Mathlib.Omega.{arith}
+use Rattle.assertions.proofs.Prot.{ProtSoFar, prot-start, prot-room, prot-more, prot-stop, prot-end}
 use borrow.Author.Needs.{needs}
 use Rattle.assertions.proofs.check_prot.Statement.{statement}
 use Rattle.assertions.proofs.check_prot.Tie as tie
 
 abbrev Inv-loop : tie.InvT-loop
-Inv-loop plan place a m t₀ t = ProtSoFar plan place a t
+Inv-loop plan place a m worn t₀ t = ProtSoFar plan place a m t
 
 abbrev μ-loop : tie.MeasureT-loop
-μ-loop plan place a m t₀ t = plan .identifiers - t
+μ-loop plan place a m worn t₀ t = m - t
+
+cast-capped : tie.Need-cast-capped Inv-loop μ-loop
+cast-capped c = search needs
+
+capped-requires : tie.Need-capped-requires Inv-loop μ-loop
+capped-requires c κs = search needs
+
+label-of-requires : tie.Need-label-of-requires Inv-loop μ-loop
+label-of-requires c κs = search needs
 
 loop-holds : tie.Need-loop-holds Inv-loop μ-loop
 loop-holds c = search prot-start
 
 check-prot-at-requires : tie.Need-check-prot-at-requires Inv-loop μ-loop
-check-prot-at-requires c κs = search prot-low
+check-prot-at-requires c κs = search needs
 
 is-accepted-requires : tie.Need-is-accepted-requires Inv-loop μ-loop
 is-accepted-requires c κs = search needs
@@ -43,6 +52,9 @@ check-prot-spec =
     (tie.spec
     Inv-loop
     μ-loop
+    cast-capped
+    capped-requires
+    label-of-requires
     loop-holds
     check-prot-at-requires
     is-accepted-requires

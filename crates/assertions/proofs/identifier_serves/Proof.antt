@@ -5,8 +5,8 @@ use borrow.Author.Needs.{needs}
 use Rattle.assertions.proofs.identifier_serves.Statement.{statement}
 use Rattle.assertions.proofs.identifier_serves.Tie as tie
 
-in-label-requires : tie.Need-in-label-requires
-in-label-requires c κs = search needs
+contains-u32-requires : tie.Need-contains-u32-requires
+contains-u32-requires c κs = search needs
 
 returns : tie.Need-returns
 returns c = search (serves-bare, not-true)
@@ -33,7 +33,7 @@ pub identifier-serves-spec : {M : Type 1} → statement M
 identifier-serves-spec =
     tie.close
     (tie.spec
-    in-label-requires
+    contains-u32-requires
     returns
     is-kept-requires
     returns-2

@@ -1,24 +1,32 @@
 -- So far each template keeps it.
 use Prim.Native.Nat.{_-_}
 use borrow.Author.Tests.{not-true, not-false}
-use Rattle.rules.proofs.Walk.{count-fits}
-use Rattle.assertions.proofs.Serving.{KeptSoFar, kept-start, kept-room, kept-more, kept-not, kept-all}
+use Rattle.assertions.proofs.Serving.{KeptSoFar, kept-start, kept-room, kept-place, kept-more, kept-not, kept-all}
 use native.Mathlib.Omega.{arith}
 use borrow.Author.Needs.{needs}
 use Rattle.assertions.proofs.is_kept.Statement.{statement}
 use Rattle.assertions.proofs.is_kept.Tie as tie
 
 abbrev Inv-loop : tie.InvT-loop
-Inv-loop plan declass t n x₀ x = KeptSoFar plan declass t n x
+Inv-loop declass t plan n x₀ x = KeptSoFar plan declass t n x
 
 abbrev μ-loop : tie.MeasureT-loop
-μ-loop plan declass t n x₀ x = n - x
+μ-loop declass t plan n x₀ x = n - x
 
-cast-n : tie.Need-cast-n Inv-loop μ-loop
-cast-n c = search count-fits
+capped-requires : tie.Need-capped-requires Inv-loop μ-loop
+capped-requires c κs = search needs
 
 loop-holds : tie.Need-loop-holds Inv-loop μ-loop
 loop-holds c = search kept-start
+
+cast-template : tie.Need-cast-template Inv-loop μ-loop
+cast-template c = search needs
+
+mul-template : tie.Need-mul-template Inv-loop μ-loop
+mul-template c = search needs
+
+element-copy-out-template : tie.Need-element-copy-out-template Inv-loop μ-loop
+element-copy-out-template c = search kept-place
 
 keeps-requires : tie.Need-keeps-requires Inv-loop μ-loop
 keeps-requires c κs = search needs
@@ -44,8 +52,11 @@ is-kept-spec =
     (tie.spec
     Inv-loop
     μ-loop
-    cast-n
+    capped-requires
     loop-holds
+    cast-template
+    mul-template
+    element-copy-out-template
     keeps-requires
     returns
     add-x

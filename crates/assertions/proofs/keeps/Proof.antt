@@ -1,11 +1,8 @@
--- The test of one template, read from the plan.
-use Rattle.assertions.proofs.Serving.{keeps-is}
+-- The test of one template, with both masks asked.
+use Rattle.assertions.proofs.Serving.{spares-is}
 use borrow.Author.Needs.{needs}
 use Rattle.assertions.proofs.keeps.Statement.{statement}
 use Rattle.assertions.proofs.keeps.Tie as tie
-
-template-at-requires : tie.Need-template-at-requires
-template-at-requires c κs = search needs
 
 contains-u64-requires : tie.Need-contains-u64-requires
 contains-u64-requires c κs = search needs
@@ -14,8 +11,8 @@ contains-u32-requires : tie.Need-contains-u32-requires
 contains-u32-requires c κs = search needs
 
 returns : tie.Need-returns
-returns c = search keeps-is
+returns c = search spares-is
 
 pub keeps-spec : {M : Type 1} → statement M
 keeps-spec =
-    tie.close (tie.spec template-at-requires contains-u64-requires contains-u32-requires returns)
+    tie.close (tie.spec contains-u64-requires contains-u32-requires returns)

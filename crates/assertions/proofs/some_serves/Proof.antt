@@ -1,19 +1,31 @@
 -- So far none serves.
 use Prim.Native.Nat.{_-_}
-use Rattle.assertions.proofs.Serving.{NoneServes, none-start, none-room, none-more, one-serves, none-serves}
 use native.Mathlib.Omega.{arith}
+use Rattle.assertions.proofs.Serving.{NoneServes, none-start, none-room, none-more, one-serves, none-serves}
 use borrow.Author.Needs.{needs}
 use Rattle.assertions.proofs.some_serves.Statement.{statement}
 use Rattle.assertions.proofs.some_serves.Tie as tie
 
 abbrev Inv-loop : tie.InvT-loop
-Inv-loop plan a m t₀ t = NoneServes plan a t
+Inv-loop plan a m worn t₀ t = NoneServes plan a m t
 
 abbrev μ-loop : tie.MeasureT-loop
-μ-loop plan a m t₀ t = plan .identifiers - t
+μ-loop plan a m worn t₀ t = m - t
+
+cast-capped : tie.Need-cast-capped Inv-loop μ-loop
+cast-capped c = search needs
+
+capped-requires : tie.Need-capped-requires Inv-loop μ-loop
+capped-requires c κs = search needs
+
+label-of-requires : tie.Need-label-of-requires Inv-loop μ-loop
+label-of-requires c κs = search needs
 
 loop-holds : tie.Need-loop-holds Inv-loop μ-loop
 loop-holds c = search none-start
+
+cast-identifier-serves : tie.Need-cast-identifier-serves Inv-loop μ-loop
+cast-identifier-serves c = search needs
 
 identifier-serves-requires : tie.Need-identifier-serves-requires Inv-loop μ-loop
 identifier-serves-requires c κs = search needs
@@ -39,7 +51,11 @@ some-serves-spec =
     (tie.spec
     Inv-loop
     μ-loop
+    cast-capped
+    capped-requires
+    label-of-requires
     loop-holds
+    cast-identifier-serves
     identifier-serves-requires
     returns
     add-t

@@ -1,4 +1,4 @@
--- In a plan in range no item past its identifiers counts.
+-- The templates are read from the plan.
 use Rattle.edges.proofs.Offenders.{edge-checked}
 use borrow.Author.Needs.{needs}
 use Rattle.edges.proofs.check_edge.Statement.{statement}

@@ -1,7 +1,6 @@
 -- The loop leaves at the first template whose edges are not accepted; so far all were.
 use Prim.Native.Nat.{_-_}
 use borrow.Author.Tests.{not-true, not-false}
-use Rattle.rules.proofs.Walk.{count-fits}
 use Rattle.edges.proofs.Forms.{Passed, edges-start, edges-room, edges-more, edges-hit, edges-end}
 use native.Mathlib.Omega.{arith}
 use borrow.Author.Needs.{needs}
@@ -14,8 +13,8 @@ Inv-loop plan n x₀ x = Passed plan n x
 abbrev μ-loop : tie.MeasureT-loop
 μ-loop plan n x₀ x = n - x
 
-cast-n : tie.Need-cast-n Inv-loop μ-loop
-cast-n c = search count-fits
+capped-requires : tie.Need-capped-requires Inv-loop μ-loop
+capped-requires c κs = search needs
 
 loop-holds : tie.Need-loop-holds Inv-loop μ-loop
 loop-holds c = search edges-start
@@ -47,7 +46,7 @@ check-edges-spec =
     (tie.spec
     Inv-loop
     μ-loop
-    cast-n
+    capped-requires
     loop-holds
     check-edges-from-requires
     is-accepted-requires

@@ -1,7 +1,6 @@
 -- After x templates the masks have what those created once, and again.
 use Prim.Native.Nat.{_-_}
-use Rattle.rules.proofs.Walk.{count-fits}
-use Rattle.edges.proofs.Creators.{Gathered, gathered-none, gathered-room, gathered-more, gathered-all}
+use Rattle.edges.proofs.Creators.{Gathered, gathered-none, gathered-room, gathered-place, gathered-more, gathered-all}
 use native.Mathlib.Omega.{arith}
 use borrow.Author.Needs.{needs}
 use Rattle.edges.proofs.created_twice.Statement.{statement}
@@ -13,14 +12,20 @@ Inv-loop plan n once₀ twice₀ x₀ once twice x = Gathered plan n x once twic
 abbrev μ-loop : tie.MeasureT-loop
 μ-loop plan n once₀ twice₀ x₀ once twice x = n - x
 
-cast-n : tie.Need-cast-n Inv-loop μ-loop
-cast-n c = search count-fits
+capped-requires : tie.Need-capped-requires Inv-loop μ-loop
+capped-requires c κs = search needs
 
 loop-holds : tie.Need-loop-holds Inv-loop μ-loop
 loop-holds c = search gathered-none
 
-template-at-requires : tie.Need-template-at-requires Inv-loop μ-loop
-template-at-requires c κs = search needs
+cast-template : tie.Need-cast-template Inv-loop μ-loop
+cast-template c = search needs
+
+mul-template : tie.Need-mul-template Inv-loop μ-loop
+mul-template c = search needs
+
+element-copy-out-template : tie.Need-element-copy-out-template Inv-loop μ-loop
+element-copy-out-template c = search gathered-place
 
 add-x : tie.Need-add-x Inv-loop μ-loop
 add-x c = search gathered-room
@@ -40,9 +45,11 @@ created-twice-spec =
     (tie.spec
     Inv-loop
     μ-loop
-    cast-n
+    capped-requires
     loop-holds
-    template-at-requires
+    cast-template
+    mul-template
+    element-copy-out-template
     add-x
     loop-less
     loop-again

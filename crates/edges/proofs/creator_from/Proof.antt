@@ -1,26 +1,31 @@
 -- So far no template from the given one on creates it.
 use Prim.Native.Nat.{_-_}
-use Rattle.rules.proofs.Walk.{count-fits}
-use Rattle.edges.proofs.Creators.{Passing, from-start, from-room, from-miss, from-hit, from-end}
+use Rattle.edges.proofs.Creators.{Passing, from-start, from-room, from-place, from-miss, from-hit, from-end}
 use native.Mathlib.Omega.{arith}
 use borrow.Author.Needs.{needs}
 use Rattle.edges.proofs.creator_from.Statement.{statement}
 use Rattle.edges.proofs.creator_from.Tie as tie
 
 abbrev Inv-loop : tie.InvT-loop
-Inv-loop plan t from n x₀ x = Passing plan t from n x
+Inv-loop t from plan n x₀ x = Passing plan t from n x
 
 abbrev μ-loop : tie.MeasureT-loop
-μ-loop plan t from n x₀ x = n - x
+μ-loop t from plan n x₀ x = n - x
 
-cast-n : tie.Need-cast-n Inv-loop μ-loop
-cast-n c = search count-fits
+capped-requires : tie.Need-capped-requires Inv-loop μ-loop
+capped-requires c κs = search needs
 
 loop-holds : tie.Need-loop-holds Inv-loop μ-loop
 loop-holds c = search from-start
 
-template-at-requires : tie.Need-template-at-requires Inv-loop μ-loop
-template-at-requires c κs = search needs
+cast-template : tie.Need-cast-template Inv-loop μ-loop
+cast-template c = search needs
+
+mul-template : tie.Need-mul-template Inv-loop μ-loop
+mul-template c = search needs
+
+element-copy-out-template : tie.Need-element-copy-out-template Inv-loop μ-loop
+element-copy-out-template c = search from-place
 
 contains-u32-requires : tie.Need-contains-u32-requires Inv-loop μ-loop
 contains-u32-requires c κs = search needs
@@ -46,9 +51,11 @@ creator-from-spec =
     (tie.spec
     Inv-loop
     μ-loop
-    cast-n
+    capped-requires
     loop-holds
-    template-at-requires
+    cast-template
+    mul-template
+    element-copy-out-template
     contains-u32-requires
     returns
     add-x

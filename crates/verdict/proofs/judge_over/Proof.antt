@@ -1,5 +1,5 @@
--- A policy that reads is in range.
-use Rattle.verdict.proofs.Ways.{policy-small, policy-complete, policy-refused}
+-- By what the policy's reading answered.
+use Rattle.verdict.proofs.Ways.{policy-complete, policy-refused}
 use borrow.Author.Needs.{needs}
 use Rattle.verdict.proofs.judge_over.Statement.{statement}
 use Rattle.verdict.proofs.judge_over.Tie as tie
@@ -14,7 +14,7 @@ enum-told : tie.Need-enum-told
 enum-told c = search needs
 
 judge-read-requires : tie.Need-judge-read-requires
-judge-read-requires c κs = (search needs, search policy-small)
+judge-read-requires c κs = search needs
 
 enum-known-answer : tie.Need-enum-known-answer
 enum-known-answer c = search needs
