@@ -23,8 +23,8 @@ fn is_passed(tags: &[u32; 4096], m: u32, a: usize, b: usize, sender: u32, receiv
     requires { ⌜ (a < 128) × (b < 128) × (m ≤ 32) ⌝ }
     ensures { λ r. ⌜ r ≡ every m (λ i. agrees sender receiver (getD (now (tags .entry)) (a * m + i) 0) (getD (now (tags .entry)) (b * m + i) 0) i) ⌝ }
 {
-    let from = population::row_start(a, m);
-    let to = population::row_start(b, m);
+    let from = population::row_start(a as u32, m);
+    let to = population::row_start(b as u32, m);
     let mut passed = true;
     let mut i: u32 = 0;
     while i < m {

@@ -22,10 +22,10 @@ pub enum Answer {
     Refused(u8),
 }
 
-// What an operation hands back.
+// What an operation hands back. The state comes first: it then lies as the caller's own does, and is copied less often.
 pub struct Answered {
-    pub answer: Answer,
     pub state: State,
+    pub answer: Answer,
 }
 
 // What start hands back: the judge's verdict, and the state, blank where the verdict is not accepted.

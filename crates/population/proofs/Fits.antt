@@ -10,13 +10,13 @@ use lib.ListN.{length, getD}
 use lib.Dec.{ltb, leb}
 use mir.Val.{Fits}
 use mir.Syntax.{w32, w64}
-use borrow.Author.Tests.{leb-true, le-ltb, lt-ltb, le-leb, lt-leb, not-true, not-false}
+use borrow.Author.Tests.{leb-true, ltb-true, le-ltb, lt-ltb, le-leb, lt-leb, not-true, not-false}
 use Rattle.lists.specs.Numbers.{every, all, tabulate}
 use Rattle.lists.proofs.Tests.{lt-or-le, and-left, and-right}
-use Rattle.lists.proofs.Every.{every-acc, every-ext, every-and, every-rows}
+use Rattle.lists.proofs.Every.{every-at, every-acc, every-ext, every-and, every-rows}
 use Rattle.lists.proofs.Tabulate.{length-tabulate, all-tabulate}
 use Rattle.plan.specs.declared.Plan.{Plan}
-use Rattle.plan.specs.Plan.{at}
+use Rattle.plan.specs.Plan.{at, successors}
 use Rattle.plan.specs.Listed.{listFor}
 use Rattle.machine.specs.Machine.{boxLimits, templateFits, planFits, processFits, rising, populationFits, wellFormed}
 use Rattle.machine.specs.State.{Cells, placed, processesOf, machineFrom}
@@ -181,6 +181,31 @@ module _ (plan : Plan) (next live : ℕ) (c : Cells) (e : wellFormed boxLimits (
   pub formed-live : live ≤ 128
   formed-live = leb-true live 128 (and-left (leb live 128) _ (sym (population-arrays plan next live c) ∙ formed-population))
 
+  -- Numbers of templates are below N, and N is at most 64.
+  pub formed-count : (0 < plan .count) × (plan .count ≤ 64)
+  unfolding planFits
+  formed-count = (
+    ltb-true 0 (plan .count) (and-left (ltb 0 (plan .count)) _ (and-left (ltb 0 (plan .count) && (leb (plan .count) 64 && leb (plan .identifiers) 32)) _ formed-plan)),
+    plan-count plan formed-plan,
+  )
+
+  pub formed-template : (k : ℕ) → k < live → getD (c .templates) k 0 < plan .count
+  unfolding arraysFit
+  formed-template k h =
+      ltb-true (getD (c .templates) k 0) (plan .count)
+      (every-at live (λ i. ltb (getD (c .templates) i 0) (plan .count))
+      (and-left (every live (λ i. ltb (getD (c .templates) i 0) (plan .count))) _
+      (and-right (every live (λ i. ltb (getD (c .serials) i 0) next)) _
+      (and-right (every (live - 1) (λ i. ltb (getD (c .serials) i 0) (getD (c .serials) (i + 1) 0))) _
+      (and-right (leb live 128) _ (sym (population-arrays plan next live c) ∙ formed-population))))) k h)
+
+  pub formed-successors : (X : ℕ) → X < plan .count → all (λ Y. ltb Y (plan .count)) (successors (at plan X .form)) ≡ true
+  unfolding planFits templateFits
+  formed-successors X h =
+      and-left (all (λ Y. ltb Y (plan .count)) (successors (at plan X .form))) _
+      (every-at (plan .count) (λ X. templateFits (plan .count) (plan .identifiers) (at plan X))
+      (and-right (ltb 0 (plan .count) && (leb (plan .count) 64 && leb (plan .identifiers) 32)) _ formed-plan) X h)
+
   pub formed-rising : rising (map (λ p. p .serial) (processesOf (plan .identifiers) live c)) ≡ true
   unfolding populationFits
   formed-rising = and-left (rising (map (λ p. p .serial) (processesOf (plan .identifiers) live c))) _ (and-right (leb (length (processesOf (plan .identifiers) live c)) 128) _ formed-population)
@@ -194,9 +219,6 @@ module _ (plan : Plan) (next live : ℕ) (c : Cells) (g : Bool) (eg : g ≡ well
 
   pub few-identifiers : plan .identifiers ≤ 32
   few-identifiers = plan-few plan (formed-plan plan next live c formed)
-
-  pub live-within : (l : List ℕ) → length l ≡ 128 → live ≤ length l
-  live-within l e = let f = few-live in omega arith
 
   pub place-few : (k : ℕ) → k < live → k < 128
   place-few k l = let f = few-live in omega arith

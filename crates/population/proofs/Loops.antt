@@ -1,16 +1,19 @@
 -- The turns of the loops that write: `shifted` and `written`.
-use Prim.Native.Nat.{ℕ, _+_, _-_, _≤_, _<_}
+use Prim.Native.Nat.{ℕ, _+_, _-_, _≤_, _<_, min}
 use mathlib.Core.Path.{_≡_, sym, ap, _∙_}
 use mathlib.Core.Bool.{and-false}
 use mathlib.Core.Logic.{⊎-elim}
 use mathlib.Core.List.{List}
 use native.Mathlib.Omega.{arith}
-use lib.ListN.{length, getD, set}
+use lib.ListN.{length, getD, set, List·getD-eq-default}
 use lib.Seq.{getD-set-same, getD-set-other}
 use lib.Dec.{leb}
 use borrow.Author.Tests.{lt-ltb, le-ltb, le-leb, lt-leb}
 use Rattle.lists.proofs.Tests.{lt-or-le}
 use Rattle.population.specs.Arrays.{shifted, written}
+
+pub past-end : (xs : List ℕ) (i : ℕ) → length xs ≤ i → 0 ≡ getD xs i 0
+past-end xs i h = sym (List·getD-eq-default xs 0 h)
 
 -- ---- `shifted`
 
@@ -53,6 +56,37 @@ shifted-more xs₀ xs from i by h l e j = ⊎-elim below (λ q. ⊎-elim (λ r. 
         ∙ getD-set-same xs i (getD xs (i + by) 0) 0 l
         ∙ e (i + by) ∙ shifted-above xs₀ from i by (i + by) (omega arith)
         ∙ sym (ap (shifted xs₀ from (i + 1) by) q ∙ shifted-in xs₀ from (i + 1) by i h (omega arith))
+
+-- A beginning past the end: nothing moves.
+shifted-empty : (xs : List ℕ) (from to by j : ℕ) → to ≤ from → getD xs j 0 ≡ shifted xs from to by j
+shifted-empty xs from to by j h =
+    ⊎-elim (λ l. sym (shifted-below xs from to by j l)) (λ k. sym (shifted-above xs from to by j (omega arith))) (lt-or-le j from)
+
+-- From the lesser of both ends on is the same.
+shifted-start : (xs : List ℕ) (from to by s j : ℕ) → s ≡ min from to → shifted xs s to by j ≡ shifted xs from to by j
+shifted-start xs from to by s j e =
+    ⊎-elim (λ h. ap (λ (s : ℕ). shifted xs s to by j) (least h))
+    (λ h. sym (shifted-empty xs s to by j (past h)) ∙ shifted-empty xs from to by j h) (lt-or-le from to)
+  where
+    least : from < to → s ≡ from
+    least h = omega arith
+
+    past : to ≤ from → to ≤ s
+    past h = omega arith
+
+-- What `shift` asks of `slide`, and what it leaves: l places are left, the end is e, and the beginning s.
+pub slides-all : (xs ys : List ℕ) (from to by l e s : ℕ) → l ≡ length xs - by → e ≡ min to l → s ≡ min from e
+    → ((j : ℕ) → getD ys j 0 ≡ shifted xs s e by j) → (j : ℕ) → getD ys j 0 ≡ shifted xs from (min to (length xs - by)) by j
+slides-all xs ys from to by l e s el ee es w j =
+    w j ∙ shifted-start xs from e by s j es ∙ ap (λ (e : ℕ). shifted xs from e by j) (ee ∙ ap (min to) el)
+
+-- Where all of it is there, all of it moves.
+pub shifts-all : (xs ys : List ℕ) (from to by : ℕ) → to + by ≤ length xs
+    → ((j : ℕ) → getD ys j 0 ≡ shifted xs from (min to (length xs - by)) by j) → (j : ℕ) → getD ys j 0 ≡ shifted xs from to by j
+shifts-all xs ys from to by h w j = w j ∙ ap (λ (e : ℕ). shifted xs from e by j) within
+  where
+    within : min to (length xs - by) ≡ to
+    within = omega arith
 
 -- ---- `written`
 

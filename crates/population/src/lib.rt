@@ -4,7 +4,7 @@ use plan::Form;
 use plan::Plan;
 use plan::Template;
 ghost use mathlib.Core.Path.{_≡_};
-ghost use Prim.Native.Nat.{ℕ, _<_, _≤_, _+_, _-_, _*_, _^_};
+ghost use Prim.Native.Nat.{ℕ, _<_, _≤_, _+_, _-_, _*_, _^_, min};
 ghost use lib.ListN.{getD, length};
 ghost use lib.Dec.{ltb, eqb, leb};
 ghost use Rattle.lists.specs.Numbers.{every, all, lowest, tabulate};
@@ -90,14 +90,20 @@ fn is_rising(xs: &[u32], n: usize) -> bool
     fits
 }
 
+// What stands at a place, and 0 past the end.
+fn word_at(xs: &[u32], i: usize) -> u32
+    ensures { λ r. ⌜ r ≡ getD (now (xs .entry)) i 0 ⌝ }
+{
+    if i < xs.len() { xs[i] } else { 0 }
+}
+
 // The place of a serial among the first n, and n where none has it.
 pub fn place_of(serials: &[u32], n: usize, serial: u32) -> usize
-    requires { ⌜ n ≤ length (now serials) ⌝ }
     ensures { λ r. ⌜ r ≡ lowest n (λ i. eqb (getD (now (serials .entry)) i 0) serial) ⌝ }
 {
     let mut i: usize = 0;
     while i < n {
-        if serials[i] == serial {
+        if word_at(serials, i) == serial {
             return i;
         }
         i += 1;
@@ -122,11 +128,10 @@ fn full_mask(m: u32) -> u32
 }
 
 // Where the tags of a place begin, of m identifiers.
-pub fn row_start(place: usize, m: u32) -> usize
-    requires { ⌜ (place ≤ 128) × (m ≤ 32) ⌝ }
-    ensures { λ r. ⌜ (r ≡ place * m) × (r ≤ 4096) ⌝ }
+pub fn row_start(place: u32, m: u32) -> usize
+    ensures { λ r. ⌜ r ≡ place * m ⌝ }
 {
-    place * (m as usize)
+    (place as usize) * (m as usize)
 }
 
 fn below(y: u8, n: usize) -> bool
@@ -211,7 +216,7 @@ fn arrays_fit<'a>(
         ⌜ r ≡ arraysFit count m next live c ⌝ }
 {
     let top = full_mask(m);
-    let used = row_start(live, m);
+    let used = row_start(live as u32, m);
     is_rising(serials, live)
         & (all_below(serials, live, next)
             & (all_below_u8(templates, live, count)
@@ -250,9 +255,23 @@ pub fn is_well_formed<'a>(
     )
 }
 
+// The lesser of two numbers.
+fn least(a: usize, b: usize) -> usize
+    ensures { λ r. ⌜ (r ≡ min a b) × (r ≤ a) × (r ≤ b) ⌝ }
+{
+    if a < b { a } else { b }
+}
+
+// How many are left of n without the last `by`.
+fn left(n: usize, by: usize) -> usize
+    ensures { λ r. ⌜ r ≡ n - by ⌝ }
+{
+    if by < n { n - by } else { 0 }
+}
+
 // Brings what stands `by` places further on down to from..to.
-pub fn shift(xs: &mut [u32], from: usize, to: usize, by: usize)
-    requires { ⌜ (from ≤ to) × (to + by ≤ length (now xs)) ⌝ }
+fn slide(xs: &mut [u32], from: usize, to: usize, by: usize)
+    requires { ⌜ (from ≤ to) × (to ≤ length (now xs) - by) ⌝ }
     ensures { λ _. ⌜ ((j : ℕ) → getD (now (xs .exit)) j 0 ≡ shifted (now (xs .entry)) from to by j) ⌝ }
 {
     let mut i = from;
@@ -262,8 +281,8 @@ pub fn shift(xs: &mut [u32], from: usize, to: usize, by: usize)
     }
 }
 
-pub fn shift_u8(bytes: &mut [u8], from: usize, to: usize, by: usize)
-    requires { ⌜ (from ≤ to) × (to + by ≤ length (now bytes)) ⌝ }
+fn slide_u8(bytes: &mut [u8], from: usize, to: usize, by: usize)
+    requires { ⌜ (from ≤ to) × (to ≤ length (now bytes) - by) ⌝ }
     ensures { λ _. ⌜ ((j : ℕ) → getD (now (bytes .exit)) j 0 ≡ shifted (now (bytes .entry)) from to by j) ⌝ }
 {
     let mut i = from;
@@ -273,8 +292,23 @@ pub fn shift_u8(bytes: &mut [u8], from: usize, to: usize, by: usize)
     }
 }
 
+// The same for any numbers: nothing is brought from past the end.
+pub fn shift(xs: &mut [u32], from: usize, to: usize, by: usize)
+    ensures { λ _. ⌜ ((j : ℕ) → getD (now (xs .exit)) j 0 ≡ shifted (now (xs .entry)) from (min to (length (now (xs .entry)) - by)) by j) ⌝ }
+{
+    let end = least(to, left(xs.len(), by));
+    slide(xs, least(from, end), end, by);
+}
+
+pub fn shift_u8(bytes: &mut [u8], from: usize, to: usize, by: usize)
+    ensures { λ _. ⌜ ((j : ℕ) → getD (now (bytes .exit)) j 0 ≡ shifted (now (bytes .entry)) from (min to (length (now (bytes .entry)) - by)) by j) ⌝ }
+{
+    let end = least(to, left(bytes.len(), by));
+    slide_u8(bytes, least(from, end), end, by);
+}
+
 // The 32 tags from a place on.
-pub fn copy_row(tags: &[u32; 4096], from: usize) -> [u32; 32]
+fn copy_tags(tags: &[u32; 4096], from: usize) -> [u32; 32]
     requires { ⌜ from + 32 ≤ 4096 ⌝ }
     ensures { λ r. ⌜ r ≡ tabulate 32 (λ i. getD (now (tags .entry)) (from + i) 0) ⌝ }
 {
@@ -285,6 +319,13 @@ pub fn copy_row(tags: &[u32; 4096], from: usize) -> [u32; 32]
         i += 1;
     }
     row
+}
+
+// The same for any place: the last 32 where fewer stand there.
+pub fn copy_row(tags: &[u32; 4096], from: usize) -> [u32; 32]
+    ensures { λ r. ⌜ r ≡ tabulate 32 (λ i. getD (now (tags .entry)) (min from 4064 + i) 0) ⌝ }
+{
+    copy_tags(tags, least(from, 4064))
 }
 
 // Document 01: "its parent's tags, and its own serial as tag of each identifier Y creates".
@@ -300,7 +341,7 @@ fn child_tag(serial: u32, creates: u32, parent: u32, i: u32) -> u32
 }
 
 // Writes the 32 tags of a child from a place on.
-pub fn write_row(tags: &mut [u32], from: usize, parent: [u32; 32], creates: u32, serial: u32)
+fn write_tags(tags: &mut [u32], from: usize, parent: [u32; 32], creates: u32, serial: u32)
     requires { ⌜ from + 32 ≤ length (now tags) ⌝ }
     ensures { λ _. ⌜ ((j : ℕ) → getD (now (tags .exit)) j 0 ≡ written (now (tags .entry)) from 32 (λ i. childTag serial creates (getD parent i 0) i) j) ⌝ }
 {
@@ -309,4 +350,11 @@ pub fn write_row(tags: &mut [u32], from: usize, parent: [u32; 32], creates: u32,
         tags[from + i] = child_tag(serial, creates, parent[i], i as u32);
         i += 1;
     }
+}
+
+// The same for any place: at the last 32 where fewer are there.
+pub fn write_row(tags: &mut [u32; 4096], from: usize, parent: [u32; 32], creates: u32, serial: u32)
+    ensures { λ _. ⌜ ((j : ℕ) → getD (now (tags .exit)) j 0 ≡ written (now (tags .entry)) (min from 4064) 32 (λ i. childTag serial creates (getD parent i 0) i) j) ⌝ }
+{
+    write_tags(tags, least(from, 4064), parent, creates, serial);
 }

@@ -1,5 +1,5 @@
 -- What the changes of the arrays mean for the list of processes: one goes, and its children come.
-use Prim.Native.Nat.{ℕ, _+_, _-_, _*_, _≤_, _<_}
+use Prim.Native.Nat.{ℕ, _+_, _-_, _*_, _≤_, _<_, min}
 use mathlib.Core.Path.{_≡_, refl, sym, ap, ap₂, _∙_, subst}
 use mathlib.Core.Logic.{⊎-elim}
 use mathlib.Core.List.{List, [], _∷_, _++_, append-assoc, append-nil}
@@ -18,7 +18,7 @@ use Rattle.machine.specs.Machine.{Process}
 use Rattle.machine.specs.State.{Cells, placed, processesOf}
 use Rattle.population.specs.Arrays.{cells, shifted, written, childTag}
 use Rattle.population.proofs.Rows.{row-room, row-under, row-over}
-use Rattle.population.proofs.Loops.{shifted-in, shifted-below, written-in, written-below}
+use Rattle.population.proofs.Loops.{shifts-all, shifted-in, shifted-below, written-in, written-below}
 use Rattle.stepping.specs.declared.Stepped.{Stepped}
 use Rattle.stepping.specs.Stepping.{skipping, newborn, newborns, goesOn, Room, Advanced}
 
@@ -36,14 +36,14 @@ skipping-above k f i h = rw (le-ltb i k h)
 -- ---- a process goes
 
 module _ (M k last from to : ℕ) (xs₁ xs₂ xs₃ xs₄ ys₁ ys₂ ys₃ ys₄ : List ℕ) where
-  pub left-processes : k ≤ last → from ≡ k * M → to ≡ last * M
+  left : k ≤ last → from ≡ k * M → to ≡ last * M
       → ((j : ℕ) → getD ys₁ j 0 ≡ shifted xs₁ k last 1 j)
       → ((j : ℕ) → getD ys₂ j 0 ≡ shifted xs₂ k last 1 j)
       → ((j : ℕ) → getD ys₃ j 0 ≡ shifted xs₃ k last 1 j)
       → ((j : ℕ) → getD ys₄ j 0 ≡ shifted xs₄ from to M j)
       → processesOf M last (cells ys₁ ys₂ ys₃ ys₄) ≡ tabulate last (skipping k (placed M (cells xs₁ xs₂ xs₃ xs₄)))
   unfolding processesOf placed
-  left-processes h ef et e₁ e₂ e₃ e₄ =
+  left h ef et e₁ e₂ e₃ e₄ =
       tabulate-ext last (placed M d) (skipping k (placed M c)) (λ i l.
       ⊎-elim
       (λ b. process-path (placed M d i) (placed M c i)
@@ -66,6 +66,19 @@ module _ (M k last from to : ℕ) (xs₁ xs₂ xs₃ xs₄ ys₁ ys₂ ys₃ ys�
       d : Cells
       d = cells ys₁ ys₂ ys₃ ys₄
 
+  -- The same of the shifts as they are asked for: each of them finds all that it moves.
+  pub left-processes : k ≤ last → last < 128 → M ≤ 32 → length xs₁ ≡ 128 → length xs₂ ≡ 128 → length xs₃ ≡ 128 → length xs₄ ≡ 4096
+      → from ≡ k * M → to ≡ last * M
+      → ((j : ℕ) → getD ys₁ j 0 ≡ shifted xs₁ k (min last (length xs₁ - 1)) 1 j)
+      → ((j : ℕ) → getD ys₂ j 0 ≡ shifted xs₂ k (min last (length xs₂ - 1)) 1 j)
+      → ((j : ℕ) → getD ys₃ j 0 ≡ shifted xs₃ k (min last (length xs₃ - 1)) 1 j)
+      → ((j : ℕ) → getD ys₄ j 0 ≡ shifted xs₄ from (min to (length xs₄ - M)) M j)
+      → processesOf M last (cells ys₁ ys₂ ys₃ ys₄) ≡ tabulate last (skipping k (placed M (cells xs₁ xs₂ xs₃ xs₄)))
+  left-processes h l few n₁ n₂ n₃ n₄ ef et w₁ w₂ w₃ w₄ =
+      left h ef et (shifts-all xs₁ ys₁ k last 1 (omega arith) w₁) (shifts-all xs₂ ys₂ k last 1 (omega arith) w₂)
+      (shifts-all xs₃ ys₃ k last 1 (omega arith) w₃)
+      (shifts-all xs₄ ys₄ from to M (let r = row-room last M l few in omega arith) w₄)
+
 -- ---- a child comes
 
 module _ (xs ys : List ℕ) (at v : ℕ) (e : ys ≡ set xs at v) where
@@ -76,12 +89,12 @@ module _ (xs ys : List ℕ) (at v : ℕ) (e : ys ≡ set xs at v) where
   stored h = ap (λ l. getD l at 0) e ∙ getD-set-same xs at v 0 h
 
 module _ (M at from serial Y lab creates : ℕ) (row xs₁ xs₂ xs₃ xs₄ ys₁ ys₂ ys₃ ys₄ : List ℕ) where
-  pub entered-processes : at < 128 → M ≤ 32 → length xs₁ ≡ 128 → length xs₂ ≡ 128 → length xs₃ ≡ 128 → from ≡ at * M
+  entered : at < 128 → M ≤ 32 → length xs₁ ≡ 128 → length xs₂ ≡ 128 → length xs₃ ≡ 128 → from ≡ at * M
       → ys₁ ≡ set xs₁ at serial → ys₂ ≡ set xs₂ at Y → ys₃ ≡ set xs₃ at lab
       → ((j : ℕ) → getD ys₄ j 0 ≡ written xs₄ from 32 (λ i. childTag serial creates (getD row i 0) i) j)
       → processesOf M (at + 1) (cells ys₁ ys₂ ys₃ ys₄) ≡ processesOf M at (cells xs₁ xs₂ xs₃ xs₄) ++ (newborn M row serial Y lab creates ∷ [])
   unfolding processesOf placed newborn
-  entered-processes h few n₁ n₂ n₃ ef e₁ e₂ e₃ e₄ =
+  entered h few n₁ n₂ n₃ ef e₁ e₂ e₃ e₄ =
       ap (λ (n : ℕ). tabulate n (placed M d)) (add-one at)
       ∙ tabulate-snoc at (placed M d)
       ∙ ap₂ (λ (ps : List Process) (p : Process). ps ++ (p ∷ []))
@@ -103,19 +116,17 @@ module _ (M at from serial Y lab creates : ℕ) (row xs₁ xs₂ xs₃ xs₄ ys�
       tagged : ℕ → ℕ
       tagged i = childTag serial creates (getD row i 0) i
 
--- ---- what the calls ask
+-- The row of a place begins no later than the last row of all.
+begins : (M at from : ℕ) → at < 128 → M ≤ 32 → from ≡ at * M → min from 4064 ≡ from
+begins M at from h few e = let r = row-room at M h few in omega arith
 
-pub shift-up : (M k last from to : ℕ) → k ≤ last → from ≡ k * M → to ≡ last * M → from ≤ to
-shift-up M k last from to h ef et = let q = row-over M last k h in omega arith
-
-pub shift-room : (M last to : ℕ) (xs : List ℕ) → last < 128 → M ≤ 32 → to ≡ last * M → length xs ≡ 4096 → to + M ≤ length xs
-shift-room M last to xs l few et n = let r = row-room last M l few in omega arith
-
-pub write-room : (M at from : ℕ) (xs : List ℕ) → at < 128 → M ≤ 32 → from ≡ at * M → length xs ≡ 4096 → from + 32 ≤ length xs
-write-room M at from xs h few e n = let r = row-room at M h few in omega arith
-
-pub row-begins : (M k last from : ℕ) → k ≤ last → last < 128 → M ≤ 32 → from ≡ k * M → from + 32 ≤ 4096
-row-begins M k last from h l few e = let q = row-room k M (omega arith) few in omega arith
+pub entered-processes : (M at from serial Y lab creates : ℕ) (row xs₁ xs₂ xs₃ xs₄ ys₁ ys₂ ys₃ ys₄ : List ℕ)
+    → at < 128 → M ≤ 32 → length xs₁ ≡ 128 → length xs₂ ≡ 128 → length xs₃ ≡ 128 → from ≡ at * M
+    → ys₁ ≡ set xs₁ at serial → ys₂ ≡ set xs₂ at Y → ys₃ ≡ set xs₃ at lab
+    → ((j : ℕ) → getD ys₄ j 0 ≡ written xs₄ (min from 4064) 32 (λ i. childTag serial creates (getD row i 0) i) j)
+    → processesOf M (at + 1) (cells ys₁ ys₂ ys₃ ys₄) ≡ processesOf M at (cells xs₁ xs₂ xs₃ xs₄) ++ (newborn M row serial Y lab creates ∷ [])
+entered-processes M at from serial Y lab creates row xs₁ xs₂ xs₃ xs₄ ys₁ ys₂ ys₃ ys₄ h few n₁ n₂ n₃ ef e₁ e₂ e₃ e₄ =
+    entered M at (min from 4064) serial Y lab creates row xs₁ xs₂ xs₃ xs₄ ys₁ ys₂ ys₃ ys₄ h few n₁ n₂ n₃ (begins M at from h few ef ∙ ef) e₁ e₂ e₃ e₄
 
 -- ---- a process goes and its children come
 
@@ -131,14 +142,15 @@ same-newborn M k from serial Y lab creates row gs few ef er =
     ∙ sym (getD-tabulate M (λ i. getD gs (k * M + i) 0) i 0 h))))
 
 -- The last of several children: gs are the tags before anything moved.
-pub come : (M k from serial Y lab creates : ℕ) (row xs ts ls gs : List ℕ) (d e : Cells) (n : ℕ) (ps : List Process) → M ≤ 32 → from ≡ k * M
-    → row ≡ tabulate 32 (λ i. getD gs (from + i) 0)
+pub come : (M k from serial Y lab creates : ℕ) (row xs ts ls gs : List ℕ) (d e : Cells) (n : ℕ) (ps : List Process) → k < 128 → M ≤ 32 → from ≡ k * M
+    → row ≡ tabulate 32 (λ i. getD gs (min from 4064 + i) 0)
     → processesOf M n d ≡ ps
     → processesOf M (n + 1) e ≡ processesOf M n d ++ (newborn M row serial Y lab creates ∷ [])
     → processesOf M (n + 1) e ≡ ps ++ (newborn M (placed M (cells xs ts ls gs) k .tags) serial Y lab creates ∷ [])
 unfolding placed
-come M k from serial Y lab creates row xs ts ls gs d e n ps few ef er ed ee =
-    ee ∙ ap₂ (λ (ps : List Process) (p : Process). ps ++ (p ∷ [])) ed (same-newborn M k from serial Y lab creates row gs few ef er)
+come M k from serial Y lab creates row xs ts ls gs d e n ps h few ef er ed ee =
+    ee ∙ ap₂ (λ (ps : List Process) (p : Process). ps ++ (p ∷ [])) ed
+    (same-newborn M k from serial Y lab creates row gs few ef (er ∙ ap (λ (f : ℕ). tabulate 32 (λ i. getD gs (f + i) 0)) (begins M k from h few ef)))
 
 -- ---- by the number of children
 

@@ -1,12 +1,14 @@
 -- The whole step: the parts are the machine's.
 use Prim.Native.Nat.{ℕ, zero, suc, _+_, _-_, _*_, _≤_, _<_}
 use mathlib.Core.Path.{_≡_, refl, sym, ap, ap₂, _∙_, subst}
-use mathlib.Core.Bool.{Bool, true, false, not, _&&_, and-true}
+use mathlib.Core.Bool.{Bool, true, false, not, _&&_, and-true, cond}
 use mathlib.Core.List.{List, [], _∷_, _++_}
 use mathlib.Core.Option.{some}
 use native.Mathlib.Numerals.{add-one}
 use native.Mathlib.Omega.{arith}
-use lib.Dec.{eqb, leb}
+use lib.Dec.{eqb, leb, ltb}
+use borrow.Author.Tests.{ltb-true}
+use Rattle.lists.proofs.Tests.{and-left, and-right}
 use lib.ListN.{length, getD}
 use mir.Val.{Fits}
 use mir.Syntax.{w64}
@@ -15,7 +17,8 @@ use Rattle.plan.specs.declared.Form.{Form}
 use Rattle.plan.specs.declared.Plan.{Plan}
 use Rattle.plan.specs.declared.Template.{Template}
 use Rattle.plan.specs.declared.Successors.{Successors}
-use Rattle.plan.specs.Plan.{at, creates}
+use Rattle.plan.specs.declared.Form.the-variants.{End, Go, Either, Both}
+use Rattle.plan.specs.Plan.{at, creates, successors}
 use Rattle.plan.specs.Listed.{listFor, listed}
 use Rattle.machine.specs.declared.Answer.{Answer}
 use Rattle.machine.specs.declared.Answer.the-variants.{Done, Refused}
@@ -25,7 +28,7 @@ use Rattle.machine.proofs.Places.{remove-at}
 use Rattle.population.specs.Arrays.{childTag}
 use Rattle.machine.specs.State.{ifRefused}
 use Rattle.population.specs.Lent.{Same, Did, answerFor}
-use Rattle.population.proofs.Fits.{length-processes, formed-live, formed-plan, plan-few}
+use Rattle.population.proofs.Fits.{length-processes, formed-live, formed-plan, formed-count, formed-template, formed-successors, plan-few}
 use Rattle.population.proofs.Lent.{did-refused, did-same, settled-refused, settled-done, run-bad, run-formed, found-none, found-some, found-serial, alone}
 use Rattle.stepping.specs.declared.Stepped.{Stepped}
 use Rattle.stepping.specs.Stepping.{fitting, allFitting, refusalOf, skipping, newborn, newborns, stays, Room, Advanced}
@@ -168,10 +171,56 @@ module _ (plan : Plan) (next live : ℕ) (c : Cells) (serial branch : ℕ) (r : 
         ∙ ap₂ (λ (s : ℕ) p. stepBy boxLimits (machineFrom plan next live c) s branch p) (sym (found-serial (plan .identifiers) live c serial k ek l)) (found-some (plan .identifiers) live c serial k ek l))
         w
 
+-- ---- the children's templates are below N
+
+all-head : (n : ℕ) (ys : List ℕ) → 0 < n → all (λ Y. ltb Y n) ys ≡ true → getD ys 0 0 < n
+unfolding all
+all-head n [] h e = h
+all-head n (y ∷ ys) h e = ltb-true y n (and-left (ltb y n) _ e)
+
+all-next : (n : ℕ) (ys : List ℕ) → 0 < n → all (λ Y. ltb Y n) ys ≡ true → getD ys 1 0 < n
+unfolding all
+all-next n [] h e = h
+all-next n (y ∷ ys) h e = all-head n ys h (and-right (ltb y n) _ e)
+
+either-fits : (n Y Z : ℕ) (b : Bool) → (ltb Y n && (ltb Z n && true)) ≡ true → (ltb (cond b Y Z) n && true) ≡ true
+either-fits n Y Z true e = and-true (ltb Y n) ∙ and-left (ltb Y n) _ e
+either-fits n Y Z false e = and-right (ltb Y n) _ e
+
+children-fit : (n branch : ℕ) (form : Form) → all (λ Y. ltb Y n) (successors form) ≡ true → all (λ Y. ltb Y n) (children form branch) ≡ true
+unfolding all successors children
+children-fit n branch End e = refl
+children-fit n branch (Go Y) e = e
+children-fit n branch (Either Y Z) e = either-fits n Y Z (eqb branch 0) e
+children-fit n branch (Both Y Z) e = e
+
 -- What the state gives where the arrays are reached into.
 module _ (plan : Plan) (next live : ℕ) (c : Cells) (k : ℕ) (well : wellFormed boxLimits (machineFrom plan next live c) ≡ true) (h : k < live) where
   pub at-place : k < 128
   at-place = let l = formed-live plan next live c well in omega arith
+
+  pub at-template : getD (c .templates) k 0 < 64
+  at-template = let l = formed-template plan next live c well k h in let f = formed-count plan next live c well .1 in omega arith
+
+  pub at-cast : Fits w64 (getD (c .templates) k 0)
+  at-cast = let l = at-template in omega arith
+
+  pub at-scaled : Fits w64 (getD (c .templates) k 0 * 24)
+  at-scaled = let l = at-template in omega arith
+
+  module _ (branch y : ℕ) where
+    fit : all (λ Y. ltb Y (plan .count)) (children (at plan (getD (c .templates) k 0) .form) branch) ≡ true
+    fit = children-fit (plan .count) branch (at plan (getD (c .templates) k 0) .form) (formed-successors plan next live c well (getD (c .templates) k 0) (formed-template plan next live c well k h))
+
+    pub at-first : y ≡ getD (children (at plan (getD (c .templates) k 0) .form) branch) 0 0 → y < 64
+    at-first e =
+        let f = formed-count plan next live c well .1 in
+        let l = all-head (plan .count) (children (at plan (getD (c .templates) k 0) .form) branch) (formed-count plan next live c well .0) fit in omega arith
+
+    pub at-second : y ≡ getD (children (at plan (getD (c .templates) k 0) .form) branch) 1 0 → y < 64
+    at-second e =
+        let f = formed-count plan next live c well .1 in
+        let l = all-next (plan .count) (children (at plan (getD (c .templates) k 0) .form) branch) (formed-count plan next live c well .0) fit in omega arith
 
   pub at-offset : Fits w64 (k * 4)
   at-offset = let l = formed-live plan next live c well in omega arith

@@ -40,7 +40,7 @@ fn is_branch(form: Form, branch: u32) -> bool
 
 // "`go` and `either` make one child, `both` two (Y takes the lower serial), `end` none": their templates.
 fn children_of(form: Form, branch: u32) -> Successors
-    ensures { λ r. ⌜ (listed r ≡ children form branch) × (r .count ≤ 2) ⌝ }
+    ensures { λ r. ⌜ (listed r ≡ children form branch) × (r .count ≤ 2) × (r .first ≡ getD (children form branch) 0 0) × (r .second ≡ getD (children form branch) 1 0) ⌝ }
 {
     match form {
         Form::End => Successors {
@@ -155,8 +155,8 @@ fn leave<'a>(
     population::shift(serials, k, last, 1);
     population::shift_u8(templates, k, last, 1);
     population::shift(labels, k, last, 1);
-    let from = population::row_start(k, m);
-    let to = population::row_start(last, m);
+    let from = population::row_start(k as u32, m);
+    let to = population::row_start(last as u32, m);
     population::shift(tags, from, to, m as usize);
 }
 
@@ -183,7 +183,7 @@ fn enter<'a>(
     put(serials, at, serial);
     put_u8(templates, at, y);
     put(labels, at, lab);
-    let from = population::row_start(at, m);
+    let from = population::row_start(at as u32, m);
     population::write_row(tags, from, row, creates, serial);
 }
 
@@ -206,7 +206,7 @@ fn replace<'a>(
         let d = cells (now (serials .exit)) (now (templates .exit)) (now (labels .exit)) (now (tags .exit)) in
         ⌜ processesOf m (last + 1) d ≡ tabulate last (skipping k (placed m c)) ++ (newborn m (placed m c k .tags) serial y (t .lab) (t .creates) ∷ []) ⌝ }
 {
-    let from = population::row_start(k, m);
+    let from = population::row_start(k as u32, m);
     let row = population::copy_row(tags, from);
     leave(m, k, last, serials, templates, labels, tags);
     enter(
@@ -245,7 +245,7 @@ fn fork<'a>(
         let d = cells (now (serials .exit)) (now (templates .exit)) (now (labels .exit)) (now (tags .exit)) in
         ⌜ processesOf m (last + 1 + 1) d ≡ (tabulate last (skipping k (placed m c)) ++ (newborn m (placed m c k .tags) serial y (t .lab) (t .creates) ∷ [])) ++ (newborn m (placed m c k .tags) (serial + 1) z (u .lab) (u .creates) ∷ []) ⌝ }
 {
-    let from = population::row_start(k, m);
+    let from = population::row_start(k as u32, m);
     let row = population::copy_row(tags, from);
     replace(m, k, last, serial, y, t, serials, templates, labels, tags);
     enter(
@@ -341,7 +341,7 @@ fn advance<'a>(
     finished(next + 2, live + 1)
 }
 
-// The step of the process at place k.
+// The step of the process at place k. Templates are looked up here: a function that looks one up would copy the plan.
 fn step_at<'a>(
     plan: Plan,
     next: u32,
@@ -360,11 +360,12 @@ fn step_at<'a>(
         let d = cells (now (serials .exit)) (now (templates .exit)) (now (labels .exit)) (now (tags .exit)) in
         ⌜ Did plan next live c (r .answer) (r .next) (r .live) d (stepBy boxLimits (machineFrom plan next live c) (getD (c .serials) k 0) branch (some (placed (plan .identifiers) c k))) ⌝ }
 {
-    let t = plan::template_at(plan, templates[k]);
+    let x = templates[k];
+    let t = plan.templates[x as usize];
     let form = t.form;
     let heirs = children_of(form, branch);
-    let first = plan::template_at(plan, heirs.first);
-    let second = plan::template_at(plan, heirs.second);
+    let first = plan.templates[heirs.first as usize];
+    let second = plan.templates[heirs.second as usize];
     let number = refusal(
         plan.identifiers,
         next,

@@ -18,8 +18,14 @@ Inv-loop tags m a b sender receiver from to passed₀ i₀ passed i = (i ≤ m) 
 abbrev μ-loop : tie.MeasureT-loop
 μ-loop tags m a b sender receiver from to passed₀ i₀ passed i = m - i
 
+cast-row-start : tie.Need-cast-row-start Inv-loop μ-loop
+cast-row-start c = search needs
+
 row-start-requires : tie.Need-row-start-requires Inv-loop μ-loop
 row-start-requires c κs = search needs
+
+cast-row-start-2 : tie.Need-cast-row-start-2 Inv-loop μ-loop
+cast-row-start-2 c = search needs
 
 row-start-requires-2 : tie.Need-row-start-requires-2 Inv-loop μ-loop
 row-start-requires-2 c κs = search needs
@@ -63,7 +69,7 @@ loop-less c = search needs
 loop-again : tie.Need-loop-again Inv-loop μ-loop
 loop-again c = (
   omega arith,
-  passed-more _ _ _ _ _ _ _ _ (c .before .before .before .before .before .before .before .args .tags .now) _ _ (c .before .before .before .before .before .before .row-start .ensures .0) (c .before .before .before .before .before .row-start2 .ensures .0)
+  passed-more _ _ _ _ _ _ _ _ (c .before .before .before .before .before .before .before .args .tags .now) _ _ (c .before .before .before .before .before .before .row-start .ensures) (c .before .before .before .before .before .row-start2 .ensures)
       (c .before .before .before .before .loop .inv .1) (c .is-agreed .ensures),
 )
 
@@ -76,7 +82,9 @@ is-passed-spec =
     (tie.spec
     Inv-loop
     μ-loop
+    cast-row-start
     row-start-requires
+    cast-row-start-2
     row-start-requires-2
     loop-holds
     cast-is-agreed

@@ -1,6 +1,6 @@
 -- The refusals in document order, each by its law; then the message, by the labels and tags at the two places.
 use borrow.Author.Needs.{needs}
-use Rattle.population.proofs.Fits.{few-identifiers, live-within, place-few, place-offset}
+use Rattle.population.proofs.Fits.{few-identifiers, place-few, place-offset}
 use Rattle.delivery.proofs.Sends.{sent-bad, sent-from-none, sent-to-none, sent-itself, sent-delivered, sent-held}
 use Rattle.delivery.proofs.send.Statement.{statement}
 use Rattle.delivery.proofs.send.Tie as tie
@@ -12,13 +12,13 @@ returns : tie.Need-returns
 returns c = search sent-bad
 
 place-of-requires : tie.Need-place-of-requires
-place-of-requires c κs = search live-within
+place-of-requires c κs = search needs
 
 returns-2 : tie.Need-returns-2
 returns-2 c = search sent-from-none
 
 place-of-requires-2 : tie.Need-place-of-requires-2
-place-of-requires-2 c κs = search live-within
+place-of-requires-2 c κs = search needs
 
 returns-3 : tie.Need-returns-3
 returns-3 c = search sent-to-none

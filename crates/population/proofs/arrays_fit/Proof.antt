@@ -1,11 +1,15 @@
 -- The five tests are the definition's, the masks' limit and the tags' count as the code has them.
 use borrow.Author.Needs.{needs}
 use Rattle.population.proofs.Fits.{arrays-gathered}
+use Rattle.population.proofs.Rows.{rows-there}
 use Rattle.population.proofs.arrays_fit.Statement.{statement}
 use Rattle.population.proofs.arrays_fit.Tie as tie
 
 full-mask-requires : tie.Need-full-mask-requires
 full-mask-requires c κs = search needs
+
+cast-row-start : tie.Need-cast-row-start
+cast-row-start c = search needs
 
 row-start-requires : tie.Need-row-start-requires
 row-start-requires c κs = search needs
@@ -23,7 +27,7 @@ none-above-requires : tie.Need-none-above-requires
 none-above-requires c κs = search needs
 
 all-below-requires-2 : tie.Need-all-below-requires-2
-all-below-requires-2 c κs = search needs
+all-below-requires-2 c κs = search rows-there
 
 returns : tie.Need-returns
 returns c = search arrays-gathered
@@ -33,6 +37,7 @@ arrays-fit-spec =
     tie.close
     (tie.spec
     full-mask-requires
+    cast-row-start
     row-start-requires
     is-rising-requires
     all-below-requires

@@ -1,6 +1,6 @@
 -- No place that the loop passed has the serial; the measure is how many are left.
 use Prim.Native.Nat.{_-_, _≤_}
-use mathlib.Core.Path.{_≡_}
+use mathlib.Core.Path.{_≡_, sym, _∙_}
 use mathlib.Core.Bool.{false}
 use lib.Dec.{eqb}
 use lib.ListN.{getD}
@@ -21,14 +21,11 @@ abbrev μ-loop : tie.MeasureT-loop
 loop-holds : tie.Need-loop-holds Inv-loop μ-loop
 loop-holds c = (search needs, any-none _)
 
-mul-if1 : tie.Need-mul-if1 Inv-loop μ-loop
-mul-if1 c = search needs
-
-shared-slice-read-if1 : tie.Need-shared-slice-read-if1 Inv-loop μ-loop
-shared-slice-read-if1 c = search needs
+word-at-requires : tie.Need-word-at-requires Inv-loop μ-loop
+word-at-requires c κs = search needs
 
 returns : tie.Need-returns Inv-loop μ-loop
-returns c = let b = c .before .before .before in lowest-hit _ _ (b .loop .i) (search needs) (b .loop .inv .1) (eq-eqb _ _ (c .if1 .taken))
+returns c = let b = c .before .before .before in lowest-hit _ _ (b .loop .i) (search needs) (b .loop .inv .1) (eq-eqb _ _ (sym (c .before .word-at .ensures) ∙ c .if1 .taken))
 
 add-i : tie.Need-add-i Inv-loop μ-loop
 add-i c = search needs
@@ -37,7 +34,7 @@ loop-less : tie.Need-loop-less Inv-loop μ-loop
 loop-less c = search needs
 
 loop-again : tie.Need-loop-again Inv-loop μ-loop
-loop-again c = (search needs, any-more _ _ (c .before .before .before .loop .inv .1) (ne-eqb _ _ (c .if1 .left)))
+loop-again c = (search needs, any-more _ _ (c .before .before .before .loop .inv .1) (ne-eqb _ _ (λ q. c .if1 .left (c .before .word-at .ensures ∙ q))))
 
 returns-2 : tie.Need-returns-2 Inv-loop μ-loop
 returns-2 c = lowest-end _ _ (c .before .loop .i) (search needs) (search needs) (c .before .loop .inv .1)
@@ -49,8 +46,7 @@ place-of-spec =
     Inv-loop
     μ-loop
     loop-holds
-    mul-if1
-    shared-slice-read-if1
+    word-at-requires
     returns
     add-i
     loop-less

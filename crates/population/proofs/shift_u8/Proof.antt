@@ -1,61 +1,32 @@
--- Up to the place that the loop has reached each has what stood further on; the measure is how many are left.
-use Prim.Native.Nat.{ℕ, _-_, _≤_}
-use mathlib.Core.Path.{_≡_, refl}
-use native.Mathlib.Omega.{arith}
-use lib.ListN.{getD, length, length-set}
+-- The loop runs as far as something stands further on.
 use borrow.Author.Needs.{needs}
-use Rattle.population.specs.Arrays.{shifted}
-use Rattle.population.proofs.Loops.{shifted-none, shifted-more}
+use Rattle.population.proofs.Loops.{slides-all}
 use Rattle.population.proofs.shift_u8.Statement.{statement}
 use Rattle.population.proofs.shift_u8.Tie as tie
 
-abbrev Inv-loop : tie.InvT-loop
-Inv-loop bytes₀ from to by i₀ bytes i = (from ≤ i) × (i ≤ to) × (length bytes ≡ length bytes₀) × ((j : ℕ) → getD bytes j 0 ≡ shifted bytes₀ from i by j)
+left-requires : tie.Need-left-requires
+left-requires c κs = search needs
 
-abbrev μ-loop : tie.MeasureT-loop
-μ-loop bytes₀ from to by i₀ bytes i = to - i
+least-requires : tie.Need-least-requires
+least-requires c κs = search needs
 
-loop-holds : tie.Need-loop-holds Inv-loop μ-loop
-loop-holds c = (search needs, search needs, refl, shifted-none _ _ _)
+least-requires-2 : tie.Need-least-requires-2
+least-requires-2 c κs = search needs
 
-add-bytes : tie.Need-add-bytes Inv-loop μ-loop
-add-bytes c = search needs
+slide-u8-requires : tie.Need-slide-u8-requires
+slide-u8-requires c κs = search needs
 
-slice-read-bytes : tie.Need-slice-read-bytes Inv-loop μ-loop
-slice-read-bytes c = search needs
-
-slice-write-bytes : tie.Need-slice-write-bytes Inv-loop μ-loop
-slice-write-bytes c = search needs
-
-add-i : tie.Need-add-i Inv-loop μ-loop
-add-i c = search needs
-
-loop-less : tie.Need-loop-less Inv-loop μ-loop
-loop-less c = search needs
-
-loop-again : tie.Need-loop-again Inv-loop μ-loop
-loop-again c =
-    let l = c .before .before .loop in
-    (omega arith, omega arith, simp length-set (l .inv .2), shifted-more _ (l .bytes) _ _ _ (l .inv .0) (omega arith) (l .inv .3))
-
-same-length : tie.Need-same-length Inv-loop μ-loop
+same-length : tie.Need-same-length
 same-length c = search needs
 
-returns : tie.Need-returns Inv-loop μ-loop
-returns c = let e : c .before .loop .i ≡ c .before .before .args .to = omega arith in rw e at (c .before .loop .inv .3)
+returns : tie.Need-returns
+returns c =
+    let moved = c .before .before in
+    let started = moved .before in
+    let ended = started .before .before in
+    slides-all _ (moved .slide-u8 .last .0) _ _ _ _ _ _ (ended .before .left .ensures) (ended .least .ensures .0) (started .least2 .ensures .0) (moved .slide-u8 .ensures)
 
 pub shift-u8-spec : {M : Type 1} → statement M
 shift-u8-spec =
     tie.close
-    (tie.spec
-    Inv-loop
-    μ-loop
-    loop-holds
-    add-bytes
-    slice-read-bytes
-    slice-write-bytes
-    add-i
-    loop-less
-    loop-again
-    same-length
-    returns)
+    (tie.spec left-requires least-requires least-requires-2 slide-u8-requires same-length returns)

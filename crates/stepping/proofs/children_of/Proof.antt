@@ -19,23 +19,23 @@ enum-known-form-3 c = search needs
 
 returns : tie.Need-returns
 unfolding children
-returns c = (rw (c .enum-told .given .1), search needs)
+returns c = (rw (c .enum-told .given .1), search needs, rw (c .enum-told .given .1), rw (c .enum-told .given .1))
 
 returns-2 : tie.Need-returns-2
 unfolding children
-returns-2 c = (rw (c .before .form .given .1), search needs)
+returns-2 c = (rw (c .before .form .given .1), search needs, rw (c .before .form .given .1), rw (c .before .form .given .1))
 
 returns-3 : tie.Need-returns-3
 unfolding children
-returns-3 c = (rw (c .before .before .form2 .given .1, eq-eqb _ _ (c .if1 .taken)), search needs)
+returns-3 c = (rw (c .before .before .form2 .given .1, eq-eqb _ _ (c .if1 .taken)), search needs, rw (c .before .before .form2 .given .1, eq-eqb _ _ (c .if1 .taken)), rw (c .before .before .form2 .given .1))
 
 returns-4 : tie.Need-returns-4
 unfolding children
-returns-4 c = (rw (c .before .before .form2 .given .1, ne-eqb _ _ (c .if1 .left)), search needs)
+returns-4 c = (rw (c .before .before .form2 .given .1, ne-eqb _ _ (c .if1 .left)), search needs, rw (c .before .before .form2 .given .1, ne-eqb _ _ (c .if1 .left)), rw (c .before .before .form2 .given .1))
 
 returns-5 : tie.Need-returns-5
 unfolding children
-returns-5 c = (rw (c .before .form3 .given .1), search needs)
+returns-5 c = (rw (c .before .form3 .given .1), search needs, rw (c .before .form3 .given .1), rw (c .before .form3 .given .1))
 
 pub children-of-spec : {M : Type 1} → statement M
 children-of-spec =

@@ -1,6 +1,6 @@
 -- Each array takes the child's value at the place, the tags its row.
 use borrow.Author.Needs.{needs}
-use Rattle.stepping.proofs.Moves.{write-room, entered-processes}
+use Rattle.stepping.proofs.Moves.{entered-processes}
 use Rattle.stepping.proofs.enter.Statement.{statement}
 use Rattle.stepping.proofs.enter.Tie as tie
 
@@ -13,11 +13,14 @@ put-u8-requires c κs = search needs
 put-requires-2 : tie.Need-put-requires-2
 put-requires-2 c κs = search needs
 
+cast-row-start : tie.Need-cast-row-start
+cast-row-start c = search needs
+
 row-start-requires : tie.Need-row-start-requires
 row-start-requires c κs = search needs
 
 write-row-requires : tie.Need-write-row-requires
-write-row-requires c κs = search write-room
+write-row-requires c κs = search needs
 
 returns : tie.Need-returns
 returns c =
@@ -26,7 +29,7 @@ returns c =
     let serials = templates .before .before in
     let b = serials .before .before in
     entered-processes _ _ _ _ _ _ _ _ (b .args .serials .now) (b .args .templates .now) (b .args .labels .now) _ _ _ _ _ (b .pre .0) (b .pre .1) (search needs) (search needs) (search needs)
-    (c .before .before .row-start .ensures .0) (serials .put .ensures) (templates .put-u8 .ensures) (labels .put2 .ensures) (c .write-row .ensures)
+    (c .before .before .row-start .ensures) (serials .put .ensures) (templates .put-u8 .ensures) (labels .put2 .ensures) (c .write-row .ensures)
 
 pub enter-spec : {M : Type 1} → statement M
 enter-spec =
@@ -35,6 +38,7 @@ enter-spec =
     put-requires
     put-u8-requires
     put-requires-2
+    cast-row-start
     row-start-requires
     write-row-requires
     returns)

@@ -1,6 +1,6 @@
 -- Each array moves down by one place, the tags by one row.
 use borrow.Author.Needs.{needs}
-use Rattle.stepping.proofs.Moves.{shift-up, shift-room, left-processes}
+use Rattle.stepping.proofs.Moves.{left-processes}
 use Rattle.stepping.proofs.leave.Statement.{statement}
 use Rattle.stepping.proofs.leave.Tie as tie
 
@@ -13,14 +13,20 @@ shift-u8-requires c κs = search needs
 shift-requires-2 : tie.Need-shift-requires-2
 shift-requires-2 c κs = search needs
 
+cast-row-start : tie.Need-cast-row-start
+cast-row-start c = search needs
+
 row-start-requires : tie.Need-row-start-requires
 row-start-requires c κs = search needs
+
+cast-row-start-2 : tie.Need-cast-row-start-2
+cast-row-start-2 c = search needs
 
 row-start-requires-2 : tie.Need-row-start-requires-2
 row-start-requires-2 c κs = search needs
 
 shift-requires-3 : tie.Need-shift-requires-3
-shift-requires-3 c κs = (shift-up _ _ _ _ _ (c .before .before .before .before .before .before .before .before .before .pre .0) (c .before .before .row-start .ensures .0) (c .before .row-start2 .ensures .0), search shift-room)
+shift-requires-3 c κs = search needs
 
 returns : tie.Need-returns
 returns c =
@@ -28,7 +34,9 @@ returns c =
     let labels = rows .before .before in
     let templates = labels .before .before in
     let serials = templates .before .before in
-    left-processes _ _ _ _ _ _ _ _ _ _ _ _ _ (serials .before .before .pre .0) (rows .before .row-start .ensures .0) (rows .row-start2 .ensures .0)
+    let b = serials .before .before in
+    left-processes _ _ _ _ _ (b .args .serials .now) (b .args .templates .now) (b .args .labels .now) (b .args .tags .now) _ _ _ _ (b .pre .0) (b .pre .1) (b .pre .2)
+    (search needs) (search needs) (search needs) (c .before .shift-arg3 .given .0 .1) (rows .before .row-start .ensures) (rows .row-start2 .ensures)
     (serials .shift .ensures) (templates .shift-u8 .ensures) (labels .shift2 .ensures) (c .shift3 .ensures)
 
 pub leave-spec : {M : Type 1} → statement M
@@ -38,7 +46,9 @@ leave-spec =
     shift-requires
     shift-u8-requires
     shift-requires-2
+    cast-row-start
     row-start-requires
+    cast-row-start-2
     row-start-requires-2
     shift-requires-3
     returns)

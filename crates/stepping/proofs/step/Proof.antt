@@ -1,6 +1,6 @@
 -- 20 and 21, each by its law; else the step of the place found.
 use borrow.Author.Needs.{needs}
-use Rattle.population.proofs.Fits.{formed, live-within}
+use Rattle.population.proofs.Fits.{formed}
 use Rattle.stepping.proofs.Steps.{step-bad, step-gone, step-live}
 use Rattle.stepping.proofs.step.Statement.{statement}
 use Rattle.stepping.proofs.step.Tie as tie
@@ -15,7 +15,7 @@ returns : tie.Need-returns
 returns c = search step-bad
 
 place-of-requires : tie.Need-place-of-requires
-place-of-requires c κs = search live-within
+place-of-requires c κs = search needs
 
 refused-requires-2 : tie.Need-refused-requires-2
 refused-requires-2 c κs = search needs

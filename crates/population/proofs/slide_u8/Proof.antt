@@ -1,0 +1,61 @@
+-- Up to the place that the loop has reached each has what stood further on; the measure is how many are left.
+use Prim.Native.Nat.{ℕ, _-_, _≤_}
+use mathlib.Core.Path.{_≡_, refl}
+use native.Mathlib.Omega.{arith}
+use lib.ListN.{getD, length, length-set}
+use borrow.Author.Needs.{needs}
+use Rattle.population.specs.Arrays.{shifted}
+use Rattle.population.proofs.Loops.{shifted-none, shifted-more}
+use Rattle.population.proofs.slide_u8.Statement.{statement}
+use Rattle.population.proofs.slide_u8.Tie as tie
+
+abbrev Inv-loop : tie.InvT-loop
+Inv-loop bytes₀ from to by i₀ bytes i = (from ≤ i) × (i ≤ to) × (length bytes ≡ length bytes₀) × ((j : ℕ) → getD bytes j 0 ≡ shifted bytes₀ from i by j)
+
+abbrev μ-loop : tie.MeasureT-loop
+μ-loop bytes₀ from to by i₀ bytes i = to - i
+
+loop-holds : tie.Need-loop-holds Inv-loop μ-loop
+loop-holds c = (search needs, search needs, refl, shifted-none _ _ _)
+
+add-bytes : tie.Need-add-bytes Inv-loop μ-loop
+add-bytes c = search needs
+
+slice-read-bytes : tie.Need-slice-read-bytes Inv-loop μ-loop
+slice-read-bytes c = search needs
+
+slice-write-bytes : tie.Need-slice-write-bytes Inv-loop μ-loop
+slice-write-bytes c = search needs
+
+add-i : tie.Need-add-i Inv-loop μ-loop
+add-i c = search needs
+
+loop-less : tie.Need-loop-less Inv-loop μ-loop
+loop-less c = search needs
+
+loop-again : tie.Need-loop-again Inv-loop μ-loop
+loop-again c =
+    let l = c .before .before .loop in
+    (omega arith, omega arith, simp length-set (l .inv .2), shifted-more _ (l .bytes) _ _ _ (l .inv .0) (omega arith) (l .inv .3))
+
+same-length : tie.Need-same-length Inv-loop μ-loop
+same-length c = search needs
+
+returns : tie.Need-returns Inv-loop μ-loop
+returns c = let e : c .before .loop .i ≡ c .before .before .args .to = omega arith in rw e at (c .before .loop .inv .3)
+
+pub slide-u8-spec : {M : Type 1} → statement M
+slide-u8-spec =
+    tie.close
+    (tie.spec
+    Inv-loop
+    μ-loop
+    loop-holds
+    add-bytes
+    slice-read-bytes
+    slice-write-bytes
+    add-i
+    loop-less
+    loop-again
+    same-length
+    returns)
