@@ -1,0 +1,147 @@
+-- The row of a plan in range means that very plan.
+use Prim.Native.Nat.{ℕ, zero, suc, _+_, _*_, _/_, _%_, min, _≤_, _<_}
+use mathlib.Core.Path.{_≡_, refl, sym, ap, ap₂, _∙_, subst}
+use mathlib.Core.Logic.{_⊎_, inl, inr}
+use mathlib.Core.Bool.{Bool, true, false, cond, _&&_}
+use mathlib.Core.List.{List, _∷_}
+use mathlib.Core.Option.{Option, none, some}
+use native.Mathlib.Omega.{arith}
+use lib.ListN.{length, getD}
+use lib.Dec.{eqb, leb, ltb}
+use borrow.Author.Tests.{lt-ltb, le-ltb, le-leb}
+use Rattle.lists.specs.Numbers.{every, tabulate}
+use Rattle.lists.proofs.Every.{every-of}
+use Rattle.lists.proofs.Tests.{lt-or-le, and-of}
+use Rattle.lists.proofs.Tabulate.{getD-tabulate, tabulate-ext, tabulate-getD}
+use Rattle.plan.specs.declared.Form.{Form}
+use Rattle.plan.specs.declared.Form.the-variants.{End, Go, Either, Both}
+use Rattle.plan.specs.declared.Template.{Template}
+use Rattle.plan.specs.declared.Plan.{Plan}
+use Rattle.plan.specs.Plan.{blank, at, successors, Among}
+use Rattle.plan.specs.Range.{InRange}
+use Rattle.planrow.specs.Row.{wordAt, formOf, templateIn, isTemplate, isPlan, planIn, planOfRow, formNumber, firstOf, secondOf, wordsOf, rowOfPlan}
+
+-- ---- a form and its words
+
+form-back : (f : Form) → formOf (formNumber f) (firstOf f) (secondOf f) ≡ f
+unfolding formOf formNumber firstOf secondOf
+form-back End = refl
+form-back (Go Y) = refl
+form-back (Either Y Z) = refl
+form-back (Both Y Z) = refl
+
+number-low : (f : Form) → leb (formNumber f) 3 ≡ true
+unfolding formNumber
+number-low End = refl
+number-low (Go Y) = refl
+number-low (Either Y Z) = refl
+number-low (Both Y Z) = refl
+
+first-low : (f : Form) (N : ℕ) → N ≤ 64 → ((Y : ℕ) → Among Y (successors f) → Y < N) → leb (firstOf f) 255 ≡ true
+unfolding firstOf successors
+first-low End N n h = refl
+first-low (Go Y) N n h = le-leb Y 255 (omega (arith, h Y (inl refl)))
+first-low (Either Y Z) N n h = le-leb Y 255 (omega (arith, h Y (inl refl)))
+first-low (Both Y Z) N n h = le-leb Y 255 (omega (arith, h Y (inl refl)))
+
+second-low : (f : Form) (N : ℕ) → N ≤ 64 → ((Y : ℕ) → Among Y (successors f) → Y < N) → leb (secondOf f) 255 ≡ true
+unfolding secondOf successors
+second-low End N n h = refl
+second-low (Go Y) N n h = refl
+second-low (Either Y Z) N n h = le-leb Z 255 (omega (arith, h Z (inr (inl refl))))
+second-low (Both Y Z) N n h = le-leb Z 255 (omega (arith, h Z (inr (inl refl))))
+
+risk-low : (b : Bool) → leb (cond b 1 0) 1 ≡ true
+risk-low true = refl
+risk-low false = refl
+
+risk-back : (b : Bool) → eqb (cond b 1 0) 1 ≡ b
+risk-back true = refl
+risk-back false = refl
+
+-- ---- the words of a plan's row
+
+module _ (plan : Plan) (range : InRange plan) (sized : length (plan .templates) ≡ 64) where
+  abbrev row : List ℕ
+  row = rowOfPlan plan
+
+  count-word : getD row 0 0 ≡ plan .count
+  unfolding rowOfPlan
+  count-word = least (plan .count) (range .templates)
+    where
+      least : (n : ℕ) → n ≤ 64 → min n 65 ≡ n
+      least n h = omega arith
+
+  identifiers-word : getD row 1 0 ≡ plan .identifiers
+  unfolding rowOfPlan
+  identifiers-word = refl
+
+  template-word : (X : ℕ) → X < 64 → (k : ℕ) → k < 8 → wordAt row X k ≡ getD (wordsOf (at plan X)) k 0
+  unfolding wordAt rowOfPlan
+  template-word X h k l =
+      ap (λ (j : ℕ). getD row j 0) place
+      ∙ getD-tabulate 512 (λ j. getD (wordsOf (at plan (j / 8))) (j % 8) 0) (8 * X + k) 0 (omega arith)
+      ∙ ap₂ (λ (x j : ℕ). getD (wordsOf (at plan x)) j 0) whole left
+    where
+      place : 2 + 8 * X + k ≡ suc (suc (8 * X + k))
+      place = omega arith
+
+      whole : (8 * X + k) / 8 ≡ X
+      whole = omega arith
+
+      left : (8 * X + k) % 8 ≡ k
+      left = omega arith
+
+  is-template : (X : ℕ) → X < plan .count → isTemplate row X ≡ true
+  unfolding isTemplate wordsOf
+  is-template X h =
+      let low : X < 64 = omega (arith, range .templates) in
+      and-of _ _ (ap (λ (n : ℕ). leb n 3) (template-word X low 0 (omega arith)) ∙ number-low (at plan X .form))
+      (and-of _ _ (ap (λ (n : ℕ). leb n 255) (template-word X low 1 (omega arith)) ∙ first-low (at plan X .form) (plan .count) (range .templates) (range .successors X))
+      (and-of _ _ (ap (λ (n : ℕ). leb n 255) (template-word X low 2 (omega arith)) ∙ second-low (at plan X .form) (plan .count) (range .templates) (range .successors X))
+      (ap (λ (n : ℕ). leb n 1) (template-word X low 7 (omega arith)) ∙ risk-low (at plan X .risk))))
+
+  is-plan : isPlan row ≡ true
+  unfolding isPlan
+  is-plan =
+      ap (λ (n : ℕ). leb n 64 && every n (isTemplate row)) count-word
+      ∙ and-of _ _ (le-leb (plan .count) 64 (range .templates)) (every-of (plan .count) (isTemplate row) is-template)
+
+  same-template : (X : ℕ) → X < 64 → templateIn row X ≡ at plan X
+  unfolding templateIn wordsOf
+  same-template X h = λ i.
+      record {
+        form = (ap₂ (λ (n Y : ℕ). formOf n Y (wordAt row X 2)) (word 0 (omega arith)) (word 1 (omega arith))
+            ∙ ap (formOf (formNumber (at plan X .form)) (firstOf (at plan X .form))) (word 2 (omega arith))
+            ∙ form-back (at plan X .form)) i;
+        lab = word 3 (omega arith) i;
+        pos = word 4 (omega arith) i;
+        neg = word 5 (omega arith) i;
+        creates = word 6 (omega arith) i;
+        risk = (ap (λ (n : ℕ). eqb n 1) (word 7 (omega arith)) ∙ risk-back (at plan X .risk)) i;
+      }
+    where
+      word : (k : ℕ) → k < 8 → wordAt row X k ≡ getD (wordsOf (at plan X)) k 0
+      word = template-word X h
+
+  same-place : (X : ℕ) → X < 64 → cond (ltb X (getD row 0 0)) (templateIn row X) blank ≡ at plan X
+  same-place X h = ap (λ (n : ℕ). cond (ltb X n) (templateIn row X) blank) count-word ∙ within (lt-or-le X (plan .count))
+    where
+      within : (X < plan .count) ⊎ (plan .count ≤ X) → cond (ltb X (plan .count)) (templateIn row X) blank ≡ at plan X
+      within (inl l) = ap (λ (b : Bool). cond b (templateIn row X) blank) (lt-ltb X (plan .count) l) ∙ same-template X h
+      within (inr l) = ap (λ (b : Bool). cond b (templateIn row X) blank) (le-ltb X (plan .count) l) ∙ sym (range .unused X l)
+
+  same-plan : planIn row ≡ plan
+  unfolding planIn at
+  same-plan = λ i.
+      record {
+        count = count-word i;
+        identifiers = identifiers-word i;
+        templates = (tabulate-ext 64 _ (at plan) same-place ∙ tabulate-getD 64 (plan .templates) blank sized) i;
+      }
+
+  -- What is written means the very plan that was there.
+  pub round-trip : planOfRow (rowOfPlan plan) ≡ some plan
+  unfolding planOfRow
+  round-trip =
+      ap (λ (b : Bool). cond b (some (planIn row)) none) is-plan ∙ ap some same-plan
