@@ -1,4 +1,4 @@
--- The row of a plan in range means that very plan.
+-- The row of a plan means that very plan: one with at most 64 templates, near successors, and blank places past N.
 use Prim.Native.Nat.{ℕ, zero, suc, _+_, _*_, _/_, _%_, min, _≤_, _<_}
 use mathlib.Core.Path.{_≡_, refl, sym, ap, ap₂, _∙_, subst}
 use mathlib.Core.Logic.{_⊎_, inl, inr}
@@ -17,7 +17,7 @@ use Rattle.plan.specs.declared.Form.{Form}
 use Rattle.plan.specs.declared.Form.the-variants.{End, Go, Either, Both}
 use Rattle.plan.specs.declared.Template.{Template}
 use Rattle.plan.specs.declared.Plan.{Plan}
-use Rattle.plan.specs.Plan.{blank, at, successors, Among}
+use Rattle.plan.specs.Plan.{blank, at, successors, Among, Successor}
 use Rattle.plan.specs.Range.{InRange}
 use Rattle.planrow.specs.Row.{wordAt, formOf, templateIn, isTemplate, isPlan, planIn, planOfRow, formNumber, firstOf, secondOf, wordsOf, rowOfPlan}
 
@@ -37,19 +37,19 @@ number-low (Go Y) = refl
 number-low (Either Y Z) = refl
 number-low (Both Y Z) = refl
 
-first-low : (f : Form) (N : ℕ) → N ≤ 64 → ((Y : ℕ) → Among Y (successors f) → Y < N) → leb (firstOf f) 255 ≡ true
+first-low : (f : Form) → ((Y : ℕ) → Among Y (successors f) → Y < 64) → leb (firstOf f) 255 ≡ true
 unfolding firstOf successors
-first-low End N n h = refl
-first-low (Go Y) N n h = le-leb Y 255 (omega (arith, h Y (inl refl)))
-first-low (Either Y Z) N n h = le-leb Y 255 (omega (arith, h Y (inl refl)))
-first-low (Both Y Z) N n h = le-leb Y 255 (omega (arith, h Y (inl refl)))
+first-low End h = refl
+first-low (Go Y) h = le-leb Y 255 (omega (arith, h Y (inl refl)))
+first-low (Either Y Z) h = le-leb Y 255 (omega (arith, h Y (inl refl)))
+first-low (Both Y Z) h = le-leb Y 255 (omega (arith, h Y (inl refl)))
 
-second-low : (f : Form) (N : ℕ) → N ≤ 64 → ((Y : ℕ) → Among Y (successors f) → Y < N) → leb (secondOf f) 255 ≡ true
+second-low : (f : Form) → ((Y : ℕ) → Among Y (successors f) → Y < 64) → leb (secondOf f) 255 ≡ true
 unfolding secondOf successors
-second-low End N n h = refl
-second-low (Go Y) N n h = refl
-second-low (Either Y Z) N n h = le-leb Z 255 (omega (arith, h Z (inr (inl refl))))
-second-low (Both Y Z) N n h = le-leb Z 255 (omega (arith, h Z (inr (inl refl))))
+second-low End h = refl
+second-low (Go Y) h = refl
+second-low (Either Y Z) h = le-leb Z 255 (omega (arith, h Z (inr (inl refl))))
+second-low (Both Y Z) h = le-leb Z 255 (omega (arith, h Z (inr (inl refl))))
 
 risk-low : (b : Bool) → leb (cond b 1 0) 1 ≡ true
 risk-low true = refl
@@ -61,13 +61,14 @@ risk-back false = refl
 
 -- ---- the words of a plan's row
 
-module _ (plan : Plan) (range : InRange plan) (sized : length (plan .templates) ≡ 64) where
+module _ (plan : Plan) (few : plan .count ≤ 64) (near : (X Y : ℕ) → Successor plan X Y → Y < 64) (unused : (X : ℕ) → plan .count ≤ X → at plan X ≡ blank)
+    (sized : length (plan .templates) ≡ 64) where
   abbrev row : List ℕ
   row = rowOfPlan plan
 
   count-word : getD row 0 0 ≡ plan .count
   unfolding rowOfPlan
-  count-word = least (plan .count) (range .templates)
+  count-word = least (plan .count) few
     where
       least : (n : ℕ) → n ≤ 64 → min n 65 ≡ n
       least n h = omega arith
@@ -95,17 +96,17 @@ module _ (plan : Plan) (range : InRange plan) (sized : length (plan .templates) 
   is-template : (X : ℕ) → X < plan .count → isTemplate row X ≡ true
   unfolding isTemplate wordsOf
   is-template X h =
-      let low : X < 64 = omega (arith, range .templates) in
+      let low : X < 64 = omega arith in
       and-of _ _ (ap (λ (n : ℕ). leb n 3) (template-word X low 0 (omega arith)) ∙ number-low (at plan X .form))
-      (and-of _ _ (ap (λ (n : ℕ). leb n 255) (template-word X low 1 (omega arith)) ∙ first-low (at plan X .form) (plan .count) (range .templates) (range .successors X))
-      (and-of _ _ (ap (λ (n : ℕ). leb n 255) (template-word X low 2 (omega arith)) ∙ second-low (at plan X .form) (plan .count) (range .templates) (range .successors X))
+      (and-of _ _ (ap (λ (n : ℕ). leb n 255) (template-word X low 1 (omega arith)) ∙ first-low (at plan X .form) (near X))
+      (and-of _ _ (ap (λ (n : ℕ). leb n 255) (template-word X low 2 (omega arith)) ∙ second-low (at plan X .form) (near X))
       (ap (λ (n : ℕ). leb n 1) (template-word X low 7 (omega arith)) ∙ risk-low (at plan X .risk))))
 
   is-plan : isPlan row ≡ true
   unfolding isPlan
   is-plan =
       ap (λ (n : ℕ). leb n 64 && every n (isTemplate row)) count-word
-      ∙ and-of _ _ (le-leb (plan .count) 64 (range .templates)) (every-of (plan .count) (isTemplate row) is-template)
+      ∙ and-of _ _ (le-leb (plan .count) 64 few) (every-of (plan .count) (isTemplate row) is-template)
 
   same-template : (X : ℕ) → X < 64 → templateIn row X ≡ at plan X
   unfolding templateIn wordsOf
@@ -129,7 +130,7 @@ module _ (plan : Plan) (range : InRange plan) (sized : length (plan .templates) 
     where
       within : (X < plan .count) ⊎ (plan .count ≤ X) → cond (ltb X (plan .count)) (templateIn row X) blank ≡ at plan X
       within (inl l) = ap (λ (b : Bool). cond b (templateIn row X) blank) (lt-ltb X (plan .count) l) ∙ same-template X h
-      within (inr l) = ap (λ (b : Bool). cond b (templateIn row X) blank) (le-ltb X (plan .count) l) ∙ sym (range .unused X l)
+      within (inr l) = ap (λ (b : Bool). cond b (templateIn row X) blank) (le-ltb X (plan .count) l) ∙ sym (unused X l)
 
   same-plan : planIn row ≡ plan
   unfolding planIn at
@@ -140,8 +141,12 @@ module _ (plan : Plan) (range : InRange plan) (sized : length (plan .templates) 
         templates = (tabulate-ext 64 _ (at plan) same-place ∙ tabulate-getD 64 (plan .templates) blank sized) i;
       }
 
-  -- What is written means the very plan that was there.
-  pub round-trip : planOfRow (rowOfPlan plan) ≡ some plan
+  pub row-means : planOfRow (rowOfPlan plan) ≡ some plan
   unfolding planOfRow
-  round-trip =
+  row-means =
       ap (λ (b : Bool). cond b (some (planIn row)) none) is-plan ∙ ap some same-plan
+
+-- So does that of every plan that was read.
+pub round-trip : (plan : Plan) → InRange plan → length (plan .templates) ≡ 64 → planOfRow (rowOfPlan plan) ≡ some plan
+round-trip plan range sized =
+    row-means plan (range .templates) (λ X Y s. let h = range .successors X Y s in let k = range .templates in omega arith) (range .unused) sized

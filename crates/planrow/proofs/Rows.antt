@@ -135,7 +135,8 @@ pub record Filling (row : List ℕ) (n : ℕ) (templates : List Template) (i : �
   pub room : length templates ≡ 64
   pub each : (j : ℕ) → getD templates j blank ≡ cond (ltb j i) (templateIn row j) blank
 
-blanks : (n j : ℕ) → getD (replicate n blank) j blank ≡ blank
+-- A row of blank templates.
+pub blanks : (n j : ℕ) → getD (replicate n blank) j blank ≡ blank
 blanks zero j = refl
 blanks (suc n) zero = refl
 blanks (suc n) (suc j) = blanks n j

@@ -5,7 +5,7 @@ use plan::Template;
 ghost use mathlib.Core.Path.{_≡_};
 ghost use mathlib.Core.Bool.{true, cond};
 ghost use Prim.Native.Nat.{_<_, _≤_, min};
-ghost use lib.ListN.{getD};
+ghost use lib.ListN.{length};
 ghost use Rattle.planrow.specs.Row.{formOf, templateIn, isTemplate, isPlan, planIn, planOfRow, formNumber, firstOf, secondOf, wordsOf, rowOfPlan, meant};
 
 // What a row was read as: a plan, where it means one, and else the blank plan.
@@ -196,7 +196,7 @@ fn count_word(n: usize) -> u32
 
 // The row of a plan.
 pub fn row_of(plan: Plan) -> [u32; 514]
-    ensures { λ r. ⌜ r ≡ rowOfPlan plan ⌝ }
+    ensures { λ r. ⌜ (r ≡ rowOfPlan plan) × (length (plan .templates) ≡ 64) ⌝ }
 {
     let mut row = [0u32; 514];
     row[0] = count_word(plan.count);

@@ -35,7 +35,7 @@ pub struct Place {
 }
 
 // 0 done, 1 delivered, 2 held, and a refusal's own number.
-fn code_of(answer: Answer) -> u8
+pub fn code_of(answer: Answer) -> u8
     ensures { λ r. ⌜ r ≡ codeOf answer ⌝ }
 {
     match answer {
@@ -98,7 +98,7 @@ fn take_call<'a>(
 }
 
 // How many calls so many words hold, and no more than there are places for their answers.
-fn call_count(words: usize, places: usize) -> usize
+pub fn call_count(words: usize, places: usize) -> usize
     ensures { λ r. ⌜ (r ≡ min (words / 3) places) × (r * 3 ≤ words) × (r ≤ places) ⌝ }
 {
     let calls = words / 3;

@@ -1,6 +1,7 @@
 -- The words up to j stand there (Writing); how many are left falls.
 use Prim.Native.Nat.{_-_}
 use borrow.Author.Needs.{needs}
+use Rattle.lists.proofs.Length.{length-into}
 use Rattle.plan.specs.Plan.{at}
 use Rattle.planrow.proofs.Rows.{Writing, writing-none, writing-more, writing-all}
 use Rattle.planrow.proofs.row_of.Statement.{statement}
@@ -59,7 +60,7 @@ unfolding at
 loop-again c = search writing-more
 
 returns : tie.Need-returns Inv-loop μ-loop
-returns c = search writing-all
+returns c = (search writing-all, search length-into)
 
 pub row-of-spec : {M : Type 1} → statement M
 row-of-spec =

@@ -1,0 +1,105 @@
+// The base plan of document 01 through the safe wrapper.
+use monitor::{judge, locate, replay, Answer, Call, Monitor, Part, Text, Verdict};
+
+const PLAN: &[u8] = include_bytes!("../../examples/base/plan.txt");
+const POLICY: &[u8] = include_bytes!("../../examples/base/policy.txt");
+const POLICY_B: &[u8] = include_bytes!("../../examples/b/policy.txt");
+
+const RUN: [Call; 5] = [
+    Call::Step { serial: 0, branch: 0 },
+    Call::Step { serial: 1, branch: 0 },
+    Call::Step { serial: 2, branch: 0 },
+    Call::Step { serial: 3, branch: 0 },
+    Call::Step { serial: 5, branch: 0 },
+];
+
+fn after_the_run() -> Box<Monitor> {
+    let (verdict, mut m) = Monitor::start(PLAN, POLICY);
+    assert_eq!(verdict, Verdict::Accepted);
+    assert_eq!(m.run(&RUN), [Answer::Done; 5]);
+    m
+}
+
+#[test]
+fn verdicts() {
+    assert_eq!(judge(PLAN, POLICY), Verdict::Accepted);
+    assert_eq!(judge(PLAN, POLICY_B), Verdict::Broken { rule: 17, first: 0, second: 3, identifier: 255 });
+    assert_eq!(judge(b"", b""), Verdict::Unread { text: Text::Plan, number: 2, line: 1 });
+    assert_eq!(judge(PLAN, b"assertions=33\n"), Verdict::Unread { text: Text::Policy, number: 3, line: 1 });
+}
+
+#[test]
+fn parts() {
+    assert_eq!(locate(PLAN, POLICY), Part { text: Text::Plan, start: 0, end: 0 });
+    let part = locate(PLAN, POLICY_B);
+    assert_eq!(part.text, Text::Policy);
+    assert_eq!(&POLICY_B[part.start..part.end], b"kind=secrecy");
+    let long = vec![b'x'; 20_000];
+    assert_eq!(locate(&long, POLICY), Part { text: Text::Plan, start: 20_000, end: 20_000 });
+}
+
+#[test]
+fn calls_of_case_a() {
+    let mut m = after_the_run();
+    assert_eq!(m.live(), [4, 6, 7]);
+    assert_eq!(m.place, [8, 3]);
+    let before = m.clone();
+    assert_eq!(m.send(4, 7), Answer::Held);
+    assert_eq!(m.send(6, 4), Answer::Delivered);
+    assert_eq!(m.send(4, 6), Answer::Held);
+    assert_eq!(m.raise(4, 0), Answer::Refused(29));
+    assert_eq!(m.raise(6, 0), Answer::Refused(28));
+    assert_eq!(m.lower(4, 0), Answer::Refused(29));
+    assert_eq!(m.step(6, 1), Answer::Refused(22));
+    assert_eq!(m.send(7, 7), Answer::Refused(26));
+    assert_eq!(m.raise(7, 1), Answer::Refused(27));
+    assert_eq!(m, before);
+    assert_eq!(m.step(4, 0), Answer::Done);
+    assert_eq!(m.step(4, 0), Answer::Refused(21));
+    assert_eq!(m.live(), [6, 7]);
+}
+
+#[test]
+fn rows_that_mean_no_plan() {
+    for (at, word) in [(0, 65), (2, 4), (3, 256), (4, 256), (9, 2)] {
+        let mut m = after_the_run();
+        m.row[at] = word;
+        let before = m.clone();
+        assert_eq!(m.step(4, 0), Answer::Refused(20));
+        assert_eq!(m.send(6, 4), Answer::Refused(20));
+        assert_eq!(m.raise(4, 0), Answer::Refused(20));
+        assert_eq!(m.lower(4, 0), Answer::Refused(20));
+        assert_eq!(m.run(&RUN), [Answer::Refused(20); 5]);
+        assert_eq!(m, before);
+    }
+}
+
+#[test]
+fn not_accepted() {
+    let (verdict, mut m) = Monitor::start(PLAN, POLICY_B);
+    assert_eq!(verdict, Verdict::Broken { rule: 17, first: 0, second: 3, identifier: 255 });
+    assert_eq!(m, Monitor::blank());
+    assert_eq!(m.step(0, 0), Answer::Refused(20));
+    let (again, answers) = replay(PLAN, POLICY_B, &RUN);
+    assert_eq!(again, verdict);
+    assert!(answers.is_empty());
+}
+
+#[test]
+fn lists() {
+    let mut calls = RUN.to_vec();
+    calls.extend([
+        Call::Send { from: 4, to: 7 },
+        Call::Send { from: 6, to: 4 },
+        Call::Raise { serial: 4, identifier: 0 },
+        Call::Lower { serial: 6, identifier: 0 },
+    ]);
+    let (verdict, answers) = replay(PLAN, POLICY, &calls);
+    assert_eq!(verdict, Verdict::Accepted);
+    assert_eq!(answers.iter().map(|a| a.code()).collect::<Vec<u8>>(), [0, 0, 0, 0, 0, 2, 1, 29, 28]);
+    let mut m = Monitor::start(PLAN, POLICY).1;
+    let mut codes = [0xEE; 4];
+    assert_eq!(m.run_into(&monitor::words_of(&calls), &mut codes[..3]), 3);
+    assert_eq!(codes, [0, 0, 0, 0xEE]);
+    assert_eq!(m.place, [5, 2]);
+}

@@ -1,0 +1,212 @@
+-- What a call on the lent memory answers, as the code meets it: `read` is what the row was read as.
+use Prim.Native.Nat.{ℕ, zero, suc, _+_, _/_, min, _≤_, _<_}
+use mathlib.Core.Path.{_≡_, refl, sym, ap, ap₂, _∙_, subst}
+use mathlib.Core.Bool.{Bool, true, false, not, cond}
+use mathlib.Core.List.{List, [], _∷_}
+use mathlib.Core.Option.{Option, none, some}
+use native.Mathlib.Omega.{arith}
+use lib.ListN.{length, getD, set, length-set}
+use lib.Seq.{getD-set-same, getD-set-other}
+use borrow.Author.Tests.{not-true, not-false}
+use Rattle.plan.specs.declared.Plan.{Plan}
+use Rattle.machine.specs.declared.Answer.{Answer}
+use Rattle.machine.specs.declared.Answer.the-variants.{Done, Delivered, Held, Refused}
+use Rattle.machine.specs.Machine.{Machine, Outcome, Call, boxLimits, run}
+use Rattle.machine.specs.State.{Cells, processesOf, machineFrom, ifRefused}
+use Rattle.population.specs.Lent.{outcomeFrom, Same, Did}
+use Rattle.population.proofs.Fits.{length-processes}
+use Rattle.population.proofs.Loops.{filled-more}
+use Rattle.promise.specs.Replay.{callsIn, codeOf}
+use Rattle.playback.specs.Playback.{Played}
+use Rattle.planrow.specs.declared.RowRead.{RowRead}
+use Rattle.planrow.specs.Row.{planOfRow, meant}
+use Rattle.embed.specs.Embed.{Held as Memory, machineIn, Answers, AllRefused, Runs}
+use Rattle.embed.proofs.Few.{few-run, few-after}
+
+-- ---- the row
+
+module _ (row : List ℕ) (read : RowRead) (e : meant read ≡ planOfRow row) where
+  row-none : not (read .known) ≡ true → planOfRow row ≡ none
+  unfolding meant
+  row-none h = sym e ∙ ap (λ (b : Bool). cond b (some (read .plan)) none) (not-true (read .known) h)
+
+  row-some : not (read .known) ≡ false → planOfRow row ≡ some (read .plan)
+  unfolding meant
+  row-some h = sym e ∙ ap (λ (b : Bool). cond b (some (read .plan)) none) (not-false (read .known) h)
+
+  -- 20, and nothing is touched.
+  pub answers-none : (call : Call) (h : Memory) → not (read .known) ≡ true → Answers (planOfRow row) call h 20 h
+  unfolding Answers
+  answers-none call h k = subst (λ (p : Option Plan). Answers p call h 20 h) (sym (row-none k)) (refl, refl)
+
+-- ---- the place
+
+-- Storing what stands there changes nothing.
+set-same : (xs : List ℕ) (i : ℕ) → set xs i (getD xs i 0) ≡ xs
+set-same [] i = refl
+set-same (x ∷ xs) zero = refl
+set-same (x ∷ xs) (suc i) = ap (λ (l : List ℕ). x ∷ l) (set-same xs i)
+
+module _ (place : List ℕ) (next live : ℕ) (sized : length place ≡ 2) where
+  stored-next : getD (set (set place 0 next) 1 live) 0 0 ≡ next
+  stored-next = getD-set-other (set place 0 next) 1 0 live 0 (λ q. omega arith) ∙ getD-set-same place 0 next 0 (omega (arith, sized))
+
+  stored-live : getD (set (set place 0 next) 1 live) 1 0 ≡ live
+  stored-live = getD-set-same (set place 0 next) 1 live 0 (omega (arith, sized, length-set place 0 next))
+
+module _ (row : List ℕ) (read : RowRead) (e : meant read ≡ planOfRow row) (known : not (read .known) ≡ false) (place : List ℕ) (c : Cells) where
+  abbrev before : Memory
+  before = record { place = place; cells = c }
+
+  abbrev m : Machine
+  m = machineFrom (read .plan) (getD place 0 0) (getD place 1 0) c
+
+  abbrev after : ℕ → ℕ → Cells → Memory
+  after next live d = record { place = set (set place 0 next) 1 live; cells = d }
+
+  -- A word holds the number of those that live.
+  pub step-few : (call : Call) (a : Answer) (many next live : ℕ) (d : Cells) → many ≤ 4294967295
+      → Did (read .plan) (getD place 0 0) many c a next live d (run boxLimits (machineFrom (read .plan) (getD place 0 0) many c) call)
+      → live ≤ 4294967295
+  unfolding machineFrom
+  step-few call a many next live d h w =
+      subst (λ (n : ℕ). n ≤ 4294967295)
+      (sym (sym (length-processes (read .plan) next live d) ∙ ap (λ (o : Outcome). length (o .machine .live)) (w .means)))
+      (few-run (machineFrom (read .plan) (getD place 0 0) many c) call (subst (λ (n : ℕ). n ≤ 4294967295) (sym (length-processes (read .plan) (getD place 0 0) many c)) h))
+
+  kept : (a : Answer) (next live : ℕ) (d : Cells) → ifRefused a (Same (getD place 0 0) (getD place 1 0) c next live d) → ifRefused a (after next live d ≡ before)
+  unfolding ifRefused
+  kept Done next live d w = Prim.tt
+  kept Delivered next live d w = Prim.tt
+  kept Held next live d w = Prim.tt
+  kept (Refused n) next live d w = λ i.
+      record {
+        place = (ap₂ (λ (x y : ℕ). set (set place 0 x) 1 y) (w .same-next) (w .same-live)
+            ∙ ap (λ (l : List ℕ). set l 1 (getD place 1 0)) (set-same place 0) ∙ set-same place 1) i;
+        cells = w .same-cells i;
+      }
+
+  stepping : (call : Call) (a : Answer) (q next live word : ℕ) (d : Cells) → length place ≡ 2 → word ≡ live → q ≡ codeOf a
+      → Did (read .plan) (getD place 0 0) (getD place 1 0) c a next live d (run boxLimits (machineFrom (read .plan) (getD place 0 0) (getD place 1 0) c) call)
+      → Answers (planOfRow row) call (record { place = place; cells = c }) q (record { place = set (set place 0 next) 1 word; cells = d })
+  unfolding Answers machineIn
+  stepping call a q next live word d sized ew eq w =
+      subst (λ (p : Option Plan). Answers p call before q (after next word d)) (sym (row-some row read e known))
+      (subst (λ (word : ℕ). Answers (some (read .plan)) call before q (after next word d)) (sym ew) (
+        eq ∙ ap (λ (o : Outcome). codeOf (o .answer)) (w .means),
+        ap₂ (λ (n l : ℕ). machineFrom (read .plan) n l d) (stored-next place next live sized) (stored-live place next live sized) ∙ ap (λ (o : Outcome). o .machine) (w .means),
+        subst (λ (o : Outcome). ifRefused (o .answer) (after next live d ≡ before)) (w .means) (kept a next live d (w .same)),
+      ))
+
+  pub answers-step : (call : Call) (a : Answer) (many q next live word : ℕ) (d : Cells) (place′ : List ℕ) → (place′ ≡ set (set place 0 next) 1 word) × (length place ≡ 2) → many ≡ getD place 1 0 → word ≡ live → q ≡ codeOf a
+      → Did (read .plan) (getD place 0 0) many c a next live d (run boxLimits (machineFrom (read .plan) (getD place 0 0) many c) call)
+      → Answers (planOfRow row) call (record { place = place; cells = c }) q (record { place = place′; cells = d })
+  answers-step call a many q next live word d place′ ep em ew eq w =
+      subst (λ (p : List ℕ). Answers (planOfRow row) call before q (record { place = p; cells = d })) (sym (ep .0))
+      (stepping call a q next live word d (ep .1) ew eq
+      (subst (λ (n : ℕ). Did (read .plan) (getD place 0 0) n c a next live d (run boxLimits (machineFrom (read .plan) (getD place 0 0) n c) call)) em w))
+
+  same-held : (a : Answer) (h : Memory) → ifRefused a (h ≡ h)
+  unfolding ifRefused
+  same-held Done h = Prim.tt
+  same-held Delivered h = Prim.tt
+  same-held Held h = Prim.tt
+  same-held (Refused n) h = refl
+
+  -- A send.
+  pub answers-send : (call : Call) (a : Answer) (many q : ℕ) → many ≡ getD place 1 0 → q ≡ codeOf a
+      → outcomeFrom a (read .plan) (getD place 0 0) many c ≡ run boxLimits (machineFrom (read .plan) (getD place 0 0) many c) call
+      → Answers (planOfRow row) call (record { place = place; cells = c }) q (record { place = place; cells = c })
+  unfolding Answers machineIn
+  answers-send call a many q em eq w =
+      subst (λ (p : Option Plan). Answers p call before q before) (sym (row-some row read e known))
+      (eq ∙ ap (λ (o : Outcome). codeOf (o .answer)) means, ap (λ (o : Outcome). o .machine) means, same-held _ before)
+    where
+      means : outcomeFrom a (read .plan) (getD place 0 0) (getD place 1 0) c ≡ run boxLimits m call
+      means = subst (λ (n : ℕ). outcomeFrom a (read .plan) (getD place 0 0) n c ≡ run boxLimits (machineFrom (read .plan) (getD place 0 0) n c) call) em w
+
+  same-place : (a : Answer) (next live next′ live′ : ℕ) (d : Cells) → ifRefused a (Same next live c next′ live′ d)
+      → ifRefused a (_≡_ {A = Memory} (record { place = place; cells = d }) (record { place = place; cells = c }))
+  unfolding ifRefused
+  same-place Done next live next′ live′ d w = Prim.tt
+  same-place Delivered next live next′ live′ d w = Prim.tt
+  same-place Held next live next′ live′ d w = Prim.tt
+  same-place (Refused n) next live next′ live′ d w = λ i. record { place = place; cells = w .same-cells i }
+
+  -- A raise or a lower.
+  pub answers-move : (call : Call) (a : Answer) (many q : ℕ) (d : Cells) → many ≡ getD place 1 0 → q ≡ codeOf a
+      → Did (read .plan) (getD place 0 0) many c a (getD place 0 0) many d (run boxLimits (machineFrom (read .plan) (getD place 0 0) many c) call)
+      → Answers (planOfRow row) call (record { place = place; cells = c }) q (record { place = place; cells = d })
+  unfolding Answers machineIn
+  answers-move call a many q d em eq w =
+      subst (λ (p : Option Plan). Answers p call before q (record { place = place; cells = d })) (sym (row-some row read e known)) (
+        eq ∙ ap (λ (o : Outcome). codeOf (o .answer)) (v .means),
+        ap (λ (o : Outcome). o .machine) (v .means),
+        subst (λ (o : Outcome). ifRefused (o .answer) (_≡_ {A = Memory} (record { place = place; cells = d }) before)) (v .means)
+            (same-place a (getD place 0 0) (getD place 1 0) (getD place 0 0) (getD place 1 0) d (v .same)),
+      )
+    where
+      v : Did (read .plan) (getD place 0 0) (getD place 1 0) c a (getD place 0 0) (getD place 1 0) d (run boxLimits m call)
+      v = subst (λ (n : ℕ). Did (read .plan) (getD place 0 0) n c a (getD place 0 0) n d (run boxLimits (machineFrom (read .plan) (getD place 0 0) n c) call)) em w
+
+  -- ---- a list of calls
+
+  pub run-few : (many n next live : ℕ) (d : Cells) (words places filled : List ℕ) → many ≤ 4294967295
+      → Played (machineFrom (read .plan) (getD place 0 0) many c) n words places (machineFrom (read .plan) next live d) filled
+      → live ≤ 4294967295
+  unfolding machineFrom
+  run-few many n next live d words places filled h w =
+      subst (λ (n : ℕ). n ≤ 4294967295)
+      (sym (sym (length-processes (read .plan) next live d) ∙ ap (λ (m : Machine). length (m .live)) (w .machine)))
+      (few-after (machineFrom (read .plan) (getD place 0 0) many c) (callsIn n words) (subst (λ (n : ℕ). n ≤ 4294967295) (sym (length-processes (read .plan) (getD place 0 0) many c)) h))
+
+  pub runs-some : (many n next live word : ℕ) (d : Cells) (place′ words places filled : List ℕ)
+      → (place′ ≡ set (set place 0 next) 1 word) × (length place ≡ 2) → many ≡ getD place 1 0 → word ≡ live
+      → n ≡ min (length words / 3) (length places)
+      → Played (machineFrom (read .plan) (getD place 0 0) many c) n words places (machineFrom (read .plan) next live d) filled
+      → Runs (planOfRow row) words (record { place = place; cells = c }) places n (record { place = place′; cells = d }) filled
+  unfolding Runs machineIn
+  runs-some many n next live word d place′ words places filled ep em ew en w =
+      subst (λ (p : Option Plan). Runs p words before places n (record { place = place′; cells = d }) filled) (sym (row-some row read e known))
+      (subst (λ (p : List ℕ). Runs (some (read .plan)) words before places n (record { place = p; cells = d }) filled) (sym (ep .0))
+      (subst (λ (word : ℕ). Runs (some (read .plan)) words before places n (after next word d) filled) (sym ew)
+      (en, subst (λ (m′ : Machine). Played m n words places m′ filled) (sym stored) (subst (λ (many : ℕ). Played (machineFrom (read .plan) (getD place 0 0) many c) n words places (machineFrom (read .plan) next live d) filled) em w))))
+    where
+      stored : machineFrom (read .plan) (getD (set (set place 0 next) 1 live) 0 0) (getD (set (set place 0 next) 1 live) 1 0) d ≡ machineFrom (read .plan) next live d
+      stored = ap₂ (λ (n l : ℕ). machineFrom (read .plan) n l d) (stored-next place next live (ep .1)) (stored-live place next live (ep .1))
+
+module _ (row : List ℕ) (read : RowRead) (e : meant read ≡ planOfRow row) where
+  pub runs-none : (h : Memory) (words places filled : List ℕ) (n : ℕ) → not (read .known) ≡ true
+      → (n ≡ min (length words / 3) (length places)) × AllRefused n places filled
+      → Runs (planOfRow row) words h places n h filled
+  unfolding Runs
+  runs-none h words places filled n k w =
+      subst (λ (p : Option Plan). Runs p words h places n h filled) (sym (row-none row read e k)) (w .0, w .1, refl)
+
+-- The first i answers are 20.
+pub record Refusing (words : ℕ) (places : List ℕ) (n : ℕ) (filled : List ℕ) (i : ℕ) : Type 0 where
+  pub counted : n ≡ min (words / 3) (length places)
+  pub room : n ≤ length places
+  pub sized : length filled ≡ length places
+  pub so-far : i ≤ n
+  pub each : (j : ℕ) → j < i → getD filled j 0 ≡ 20
+  pub rest : (j : ℕ) → i ≤ j → getD filled j 0 ≡ getD places j 0
+
+module _ (words : ℕ) (places : List ℕ) (n : ℕ) where
+  pub refusing-none : n ≡ min (words / 3) (length places) → n ≤ length places → Refusing words places n places 0
+  refusing-none e h = record { counted = e; room = h; sized = refl; so-far = omega arith; each = λ j l. omega arith; rest = λ j l. refl }
+
+  pub refusing-more : (filled : List ℕ) (i : ℕ) → Refusing words places n filled i → i < n → Refusing words places n (set filled i 20) (i + 1)
+  refusing-more filled i w h = record {
+    counted = w .counted;
+    room = w .room;
+    sized = length-set filled i 20 ∙ w .sized;
+    so-far = omega arith;
+    each = filled-more (λ (j : ℕ). 20) filled i 20 (omega (arith, w .sized, w .room)) refl (w .each);
+    rest = λ j l. getD-set-other filled i j 20 0 (λ q. omega arith) ∙ w .rest j (omega arith);
+  }
+
+  pub refusing-all : (filled : List ℕ) (i : ℕ) → Refusing words places n filled i → n ≤ i
+      → (n ≡ min (words / 3) (length places)) × AllRefused n places filled
+  refusing-all filled i w h =
+      (w .counted, record { each = λ j l. w .each j (omega arith); rest = λ j l. w .rest j (let k = w .so-far in omega arith) })

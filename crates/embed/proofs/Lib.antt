@@ -1,0 +1,4 @@
+pub mod Few
+pub mod Answered
+pub mod Words
+pub mod Begun

@@ -1,0 +1,58 @@
+-- Every answer is 20 where the row means no plan; else what the calls on lent arrays left, its place stored.
+use Rattle.embed.proofs.Answered.{runs-none, run-few, runs-some}
+use borrow.Author.Needs.{needs}
+use Rattle.embed.proofs.monitor_run.Statement.{statement}
+use Rattle.embed.proofs.monitor_run.Tie as tie
+
+read-row-requires : tie.Need-read-row-requires
+read-row-requires c κs = search needs
+
+refuse-all-requires : tie.Need-refuse-all-requires
+refuse-all-requires c κs = search needs
+
+same-length : tie.Need-same-length
+same-length c = search needs
+
+returns : tie.Need-returns
+returns c = search runs-none
+
+element-copy-out-next : tie.Need-element-copy-out-next
+element-copy-out-next c = search needs
+
+element-copy-out-live : tie.Need-element-copy-out-live
+element-copy-out-live c = search needs
+
+wide-requires : tie.Need-wide-requires
+wide-requires c κs = search needs
+
+run-calls-requires : tie.Need-run-calls-requires
+run-calls-requires c κs = search needs
+
+narrow-requires : tie.Need-narrow-requires
+narrow-requires c κs = search run-few
+
+store-requires : tie.Need-store-requires
+store-requires c κs = search needs
+
+same-length-2 : tie.Need-same-length-2
+same-length-2 c = search needs
+
+returns-2 : tie.Need-returns-2
+returns-2 c = search runs-some
+
+pub monitor-run-spec : {M : Type 1} → statement M
+monitor-run-spec =
+    tie.close
+    (tie.spec
+    read-row-requires
+    refuse-all-requires
+    same-length
+    returns
+    element-copy-out-next
+    element-copy-out-live
+    wide-requires
+    run-calls-requires
+    narrow-requires
+    store-requires
+    same-length-2
+    returns-2)

@@ -1,0 +1,340 @@
+// The monitor for a program in another language: exported functions over memory that the caller lends. What each promises
+// to a C program stands in include/monitor.h.
+use rules::Text;
+use rules::Verdict;
+ghost use mathlib.Core.Path.{_≡_};
+ghost use Prim.Native.Nat.{_≤_, _/_, min};
+ghost use lib.ListN.{length, set};
+ghost use Rattle.machine.specs.Machine.{step, send, raise, lower};
+ghost use Rattle.planrow.specs.Row.{planOfRow};
+ghost use Rattle.rules.specs.Judge.{judge};
+ghost use Rattle.rules.specs.Show.{locate};
+ghost use Rattle.embed.specs.Embed.{textNumber, verdictWords, partWords, held, Starts, Answers, AllRefused, Runs, ReplayedAll};
+
+// Document 01's 20, also of a row that means no plan.
+const BAD_STATE: u32 = 20;
+
+fn wide(x: u32) -> usize
+    ensures { λ r. ⌜ (r ≡ x) × (r ≤ 4294967295) ⌝ }
+{
+    x as usize
+}
+
+fn narrow(x: usize) -> u32
+    requires { ⌜ x ≤ 4294967295 ⌝ }
+    ensures { λ r. ⌜ r ≡ x ⌝ }
+{
+    x as u32
+}
+
+// The two words of a place.
+fn store(place: &mut [u32], next: u32, live: u32)
+    requires { ⌜ length (now place) ≡ 2 ⌝ }
+    ensures { λ _. ⌜ (now (place .exit) ≡ set (set (now (place .entry)) 0 next) 1 live) × (length (now (place .entry)) ≡ 2) ⌝ }
+{
+    place[0] = next;
+    place[1] = live;
+}
+
+fn text_number(text: Text) -> u32
+    ensures { λ r. ⌜ r ≡ textNumber text ⌝ }
+{
+    match text {
+        Text::Plan => 0,
+        Text::Policy => 1,
+    }
+}
+
+fn verdict_words(verdict: Verdict) -> [u32; 5]
+    ensures { λ r. ⌜ r ≡ verdictWords verdict ⌝ }
+{
+    match verdict {
+        Verdict::Accepted => [0, 0, 0, 0, 0],
+        Verdict::Broken(b) => [
+            1,
+            b.rule as u32,
+            b.first as u32,
+            b.second as u32,
+            b.identifier as u32,
+        ],
+        Verdict::Unread(f) => {
+            let text = f.text;
+            [2, text_number(text), f.number as u32, f.line, 0]
+        }
+    }
+}
+
+// Unread, broken or accepted.
+#[no_mangle]
+pub extern "C" fn monitor_judge<'a>(plan: &'a [u8], policy: &'a [u8], words: &'a mut [u32; 5])
+    ensures { λ _. ⌜ now (words .exit) ≡ verdictWords (judge (now (plan .entry)) (now (policy .entry))) ⌝ }
+{
+    let verdict = verdict::judge(plan, policy);
+    *words = verdict_words(verdict);
+}
+
+// Where the part lies that the verdict shows.
+#[no_mangle]
+pub extern "C" fn monitor_locate<'a>(plan: &'a [u8], policy: &'a [u8], words: &'a mut [usize; 3])
+    ensures { λ _. ⌜ now (words .exit) ≡ partWords (locate (now (plan .entry)) (now (policy .entry))) ⌝ }
+{
+    let part = showing::locate(plan, policy);
+    let text = part.text;
+    *words = [wide(text_number(text)), part.start, part.end];
+}
+
+// Judges both texts; writes the verdict, and the started state, blank where it is not accepted.
+#[no_mangle]
+pub extern "C" fn monitor_start<'a>(
+    plan: &'a [u8],
+    policy: &'a [u8],
+    words: &'a mut [u32; 5],
+    row: &'a mut [u32; 514],
+    place: &'a mut [u32; 2],
+    serials: &'a mut [u32; 128],
+    templates: &'a mut [u8; 128],
+    labels: &'a mut [u32; 128],
+    tags: &'a mut [u32; 4096],
+)
+    ensures { λ _.
+        let k = held (now (place .exit)) (now (serials .exit)) (now (templates .exit)) (now (labels .exit)) (now (tags .exit)) in
+        ⌜ Starts (now (plan .entry)) (now (policy .entry)) (now (words .exit)) (now (row .exit)) k ⌝ }
+{
+    let begun = monitor::start(plan, policy);
+    let verdict = begun.verdict;
+    let state = begun.state;
+    *words = verdict_words(verdict);
+    let read = state.plan;
+    *row = planrow::row_of(read);
+    *place = [state.next, narrow(state.live)];
+    let s = state.serials;
+    *serials = s;
+    let t = state.templates;
+    *templates = t;
+    let l = state.labels;
+    *labels = l;
+    let g = state.tags;
+    *tags = g;
+}
+
+// Document 01, Step, on a plan's row and the lent state.
+#[no_mangle]
+pub extern "C" fn monitor_step<'a>(
+    row: &'a [u32; 514],
+    place: &'a mut [u32; 2],
+    serials: &'a mut [u32; 128],
+    templates: &'a mut [u8; 128],
+    labels: &'a mut [u32; 128],
+    tags: &'a mut [u32; 4096],
+    serial: u32,
+    branch: u32,
+) -> u32
+    ensures { λ r.
+        let h = held (now (place .entry)) (now (serials .entry)) (now (templates .entry)) (now (labels .entry)) (now (tags .entry)) in
+        let k = held (now (place .exit)) (now (serials .exit)) (now (templates .exit)) (now (labels .exit)) (now (tags .exit)) in
+        ⌜ Answers (planOfRow (now (row .entry))) (step serial branch) h r k ⌝ }
+{
+    let read = planrow::read_row(row);
+    if !read.known {
+        return BAD_STATE;
+    }
+    let plan = read.plan;
+    let next = place[0];
+    let live = place[1];
+    let r = stepping::step(
+        plan,
+        next,
+        wide(live),
+        serials,
+        templates,
+        labels,
+        tags,
+        serial,
+        branch,
+    );
+    let answer = r.answer;
+    store(place, r.next, narrow(r.live));
+    playback::code_of(answer) as u32
+}
+
+// Document 01, Send. "The state stays."
+#[no_mangle]
+pub extern "C" fn monitor_send<'a>(
+    row: &'a [u32; 514],
+    place: &'a [u32; 2],
+    serials: &'a [u32; 128],
+    templates: &'a [u8; 128],
+    labels: &'a [u32; 128],
+    tags: &'a [u32; 4096],
+    from: u32,
+    to: u32,
+) -> u32
+    ensures { λ r.
+        let h = held (now (place .entry)) (now (serials .entry)) (now (templates .entry)) (now (labels .entry)) (now (tags .entry)) in
+        ⌜ Answers (planOfRow (now (row .entry))) (send from to) h r h ⌝ }
+{
+    let read = planrow::read_row(row);
+    if !read.known {
+        return BAD_STATE;
+    }
+    let plan = read.plan;
+    let next = place[0];
+    let live = place[1];
+    let answer = delivery::send(
+        plan,
+        next,
+        wide(live),
+        serials,
+        templates,
+        labels,
+        tags,
+        from,
+        to,
+    );
+    playback::code_of(answer) as u32
+}
+
+// Document 01, Raise. Only the labels change.
+#[no_mangle]
+pub extern "C" fn monitor_raise<'a>(
+    row: &'a [u32; 514],
+    place: &'a [u32; 2],
+    serials: &'a [u32; 128],
+    templates: &'a [u8; 128],
+    labels: &'a mut [u32; 128],
+    tags: &'a [u32; 4096],
+    serial: u32,
+    identifier: u32,
+) -> u32
+    ensures { λ r.
+        let h = held (now (place .entry)) (now (serials .entry)) (now (templates .entry)) (now (labels .entry)) (now (tags .entry)) in
+        let k = held (now (place .entry)) (now (serials .entry)) (now (templates .entry)) (now (labels .exit)) (now (tags .entry)) in
+        ⌜ Answers (planOfRow (now (row .entry))) (raise serial identifier) h r k ⌝ }
+{
+    let read = planrow::read_row(row);
+    if !read.known {
+        return BAD_STATE;
+    }
+    let plan = read.plan;
+    let next = place[0];
+    let live = place[1];
+    let answer = labelling::raise(
+        plan,
+        next,
+        wide(live),
+        serials,
+        templates,
+        labels,
+        tags,
+        serial,
+        identifier,
+    );
+    playback::code_of(answer) as u32
+}
+
+// Document 01, Lower. Only the labels change.
+#[no_mangle]
+pub extern "C" fn monitor_lower<'a>(
+    row: &'a [u32; 514],
+    place: &'a [u32; 2],
+    serials: &'a [u32; 128],
+    templates: &'a [u8; 128],
+    labels: &'a mut [u32; 128],
+    tags: &'a [u32; 4096],
+    serial: u32,
+    identifier: u32,
+) -> u32
+    ensures { λ r.
+        let h = held (now (place .entry)) (now (serials .entry)) (now (templates .entry)) (now (labels .entry)) (now (tags .entry)) in
+        let k = held (now (place .entry)) (now (serials .entry)) (now (templates .entry)) (now (labels .exit)) (now (tags .entry)) in
+        ⌜ Answers (planOfRow (now (row .entry))) (lower serial identifier) h r k ⌝ }
+{
+    let read = planrow::read_row(row);
+    if !read.known {
+        return BAD_STATE;
+    }
+    let plan = read.plan;
+    let next = place[0];
+    let live = place[1];
+    let answer = labelling::lower(
+        plan,
+        next,
+        wide(live),
+        serials,
+        templates,
+        labels,
+        tags,
+        serial,
+        identifier,
+    );
+    playback::code_of(answer) as u32
+}
+
+// 20 for each call of a row that means no plan.
+fn refuse_all(words: usize, answers: &mut [u8]) -> usize
+    ensures { λ r. ⌜ (r ≡ min (words / 3) (length (now (answers .entry)))) × AllRefused r (now (answers .entry)) (now (answers .exit)) ⌝ }
+{
+    let n = playback::call_count(words, answers.len());
+    let mut i: usize = 0;
+    while i < n {
+        answers[i] = 20;
+        i += 1;
+    }
+    n
+}
+
+// A list of calls, three words each, run through the lent state; as many as there are words and places for.
+#[no_mangle]
+pub extern "C" fn monitor_run<'a>(
+    row: &'a [u32; 514],
+    place: &'a mut [u32; 2],
+    serials: &'a mut [u32; 128],
+    templates: &'a mut [u8; 128],
+    labels: &'a mut [u32; 128],
+    tags: &'a mut [u32; 4096],
+    calls: &'a [u32],
+    answers: &'a mut [u8],
+) -> usize
+    ensures { λ r.
+        let h = held (now (place .entry)) (now (serials .entry)) (now (templates .entry)) (now (labels .entry)) (now (tags .entry)) in
+        let k = held (now (place .exit)) (now (serials .exit)) (now (templates .exit)) (now (labels .exit)) (now (tags .exit)) in
+        ⌜ Runs (planOfRow (now (row .entry))) (now (calls .entry)) h (now (answers .entry)) r k (now (answers .exit)) ⌝ }
+{
+    let read = planrow::read_row(row);
+    if !read.known {
+        return refuse_all(calls.len(), answers);
+    }
+    let plan = read.plan;
+    let next = place[0];
+    let live = place[1];
+    let r = playback::run_calls(
+        plan,
+        next,
+        wide(live),
+        serials,
+        templates,
+        labels,
+        tags,
+        calls,
+        answers,
+    );
+    store(place, r.next, narrow(r.live));
+    r.count
+}
+
+// Both texts judged, the box started, and the calls run through it.
+#[no_mangle]
+pub extern "C" fn monitor_replay<'a>(
+    plan: &'a [u8],
+    policy: &'a [u8],
+    calls: &'a [u32],
+    answers: &'a mut [u8],
+    words: &'a mut [u32; 5],
+) -> usize
+    ensures { λ r. ⌜ ReplayedAll (now (plan .entry)) (now (policy .entry)) (now (calls .entry)) (now (answers .entry)) (now (words .exit)) r (now (answers .exit)) ⌝ }
+{
+    let replayed = playback::replay(plan, policy, calls, answers);
+    let verdict = replayed.verdict;
+    *words = verdict_words(verdict);
+    replayed.count
+}
