@@ -122,6 +122,12 @@ size_t monitor_run(const uint32_t row[MONITOR_ROW_WORDS], uint32_t place[MONITOR
                    uint32_t labels[MONITOR_PROCESSES], uint32_t tags[MONITOR_TAGS], const uint32_t *calls,
                    size_t words, uint8_t *answers, size_t places);
 
+/* The same as monitor_run, through operations that pass the whole state by value: slower, and kept to be compared with it. */
+size_t monitor_run_values(const uint32_t row[MONITOR_ROW_WORDS], uint32_t place[MONITOR_PLACE_WORDS],
+                          uint32_t serials[MONITOR_PROCESSES], uint8_t templates[MONITOR_PROCESSES],
+                          uint32_t labels[MONITOR_PROCESSES], uint32_t tags[MONITOR_TAGS], const uint32_t *calls,
+                          size_t words, uint8_t *answers, size_t places);
+
 /* Judges the two texts, starts the box and runs the calls through it; writes the verdict and the answers, and returns how
  * many calls were played: 0 where not accepted, and then no answer is written. The box promise holds after them.      */
 size_t monitor_replay(const uint8_t *plan, size_t plan_len, const uint8_t *policy, size_t policy_len,

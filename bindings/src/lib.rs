@@ -293,6 +293,25 @@ impl Monitor {
         }
     }
 
+    /// The same as [`Monitor::run_into`] through the operations that pass the state by value: slower, and kept to be compared.
+    pub fn run_values_into(&mut self, calls: &[u32], answers: &mut [u8]) -> usize {
+        // SAFETY: as in `run_into`.
+        unsafe {
+            sys::monitor_run_values(
+                &self.row,
+                &mut self.place,
+                &mut self.serials,
+                &mut self.templates,
+                &mut self.labels,
+                &mut self.tags,
+                calls.as_ptr(),
+                calls.len(),
+                answers.as_mut_ptr(),
+                answers.len(),
+            )
+        }
+    }
+
     /// The same over a list of calls.
     pub fn run(&mut self, calls: &[Call]) -> Vec<Answer> {
         let mut codes = vec![0; calls.len()];

@@ -81,6 +81,18 @@ extern "C" {
         answers: *mut u8,
         places: usize,
     ) -> usize;
+    pub fn monitor_run_values(
+        row: *const [u32; 514],
+        place: *mut [u32; 2],
+        serials: *mut [u32; 128],
+        templates: *mut [u8; 128],
+        labels: *mut [u32; 128],
+        tags: *mut [u32; 4096],
+        calls: *const u32,
+        words: usize,
+        answers: *mut u8,
+        places: usize,
+    ) -> usize;
     pub fn monitor_replay(
         plan: *const u8,
         plan_len: usize,

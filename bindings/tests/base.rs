@@ -103,3 +103,21 @@ fn lists() {
     assert_eq!(codes, [0, 0, 0, 0xEE]);
     assert_eq!(m.place, [5, 2]);
 }
+
+#[test]
+fn by_value() {
+    let mut calls = RUN.to_vec();
+    calls.extend([Call::Send { from: 6, to: 4 }, Call::Step { serial: 4, branch: 0 }, Call::Step { serial: 4, branch: 0 }]);
+    let words = monitor::words_of(&calls);
+    let (_, mut lent) = Monitor::start(PLAN, POLICY);
+    let mut valued = lent.clone();
+    let (mut a, mut b) = ([0; 8], [0; 8]);
+    assert_eq!(lent.run_into(&words, &mut a), 8);
+    assert_eq!(valued.run_values_into(&words, &mut b), 8);
+    assert_eq!(a, b);
+    assert_eq!(a, [0, 0, 0, 0, 0, 1, 0, 21]);
+    assert_eq!((lent.place, lent.live()), (valued.place, valued.live()));
+    valued.row[0] = 65;
+    assert_eq!(valued.run_values_into(&words, &mut b), 8);
+    assert_eq!(b, [20; 8]);
+}

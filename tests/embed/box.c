@@ -173,6 +173,11 @@ static void lists(void) {
     memset(given, 0xEE, sizeof given);
     n = monitor_run(whole.row, whole.place, whole.serials, whole.templates, whole.labels, whole.tags, calls, COUNT(calls), given, 3);
     expect(n == 3 && given[2] == 0 && given[3] == 0xEE && whole.place[0] == 5, "no more calls than places");
+    start(&whole, TEXT(plan), TEXT(policy), verdict);
+    memset(given, 0xEE, sizeof given);
+    n = monitor_run_values(whole.row, whole.place, whole.serials, whole.templates, whole.labels, whole.tags, calls, COUNT(calls), given, sizeof given);
+    expect(n == COUNT(answers) && memcmp(given, answers, n) == 0 && given[n] == 0xEE, "the same by value");
+    expect(whole.place[0] == 8 && whole.place[1] == 2 && whole.serials[0] == 6 && whole.serials[1] == 7, "and what it leaves");
     memset(given, 0xEE, sizeof given);
     n = monitor_replay(TEXT(plan), TEXT(policy), calls, COUNT(calls), given, sizeof given, verdict);
     expect(n == COUNT(answers) && memcmp(given, answers, n) == 0 && verdict[0] == MONITOR_ACCEPTED, "the same from the texts");

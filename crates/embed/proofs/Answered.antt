@@ -12,7 +12,8 @@ use Rattle.plan.specs.declared.Plan.{Plan}
 use Rattle.machine.specs.declared.Answer.{Answer}
 use Rattle.machine.specs.declared.Answer.the-variants.{Done, Delivered, Held, Refused}
 use Rattle.machine.specs.Machine.{Machine, Outcome, Call, boxLimits, run}
-use Rattle.machine.specs.State.{Cells, processesOf, machineFrom, ifRefused}
+use Rattle.machine.specs.declared.State.{State}
+use Rattle.machine.specs.State.{Cells, processesOf, machineFrom, machineOf, cellsOf, ifRefused}
 use Rattle.population.specs.Lent.{outcomeFrom, Same, Did}
 use Rattle.population.proofs.Fits.{length-processes}
 use Rattle.population.proofs.Loops.{filled-more}
@@ -21,6 +22,8 @@ use Rattle.playback.specs.Playback.{Played}
 use Rattle.planrow.specs.declared.RowRead.{RowRead}
 use Rattle.planrow.specs.Row.{planOfRow, meant}
 use Rattle.embed.specs.Embed.{Held as Memory, machineIn, Answers, AllRefused, Runs}
+use Rattle.embed.specs.Loading.{Loaded}
+use Rattle.embed.proofs.Plans.{by-value}
 use Rattle.embed.proofs.Few.{few-run, few-after}
 
 -- ---- the row
@@ -174,6 +177,25 @@ module _ (row : List ℕ) (read : RowRead) (e : meant read ≡ planOfRow row) (k
     where
       stored : machineFrom (read .plan) (getD (set (set place 0 next) 1 live) 0 0) (getD (set (set place 0 next) 1 live) 1 0) d ≡ machineFrom (read .plan) next live d
       stored = ap₂ (λ (n l : ℕ). machineFrom (read .plan) n l d) (stored-next place next live (ep .1)) (stored-live place next live (ep .1))
+
+  -- ---- a list of calls by value
+
+  module _ (s s′ : State) (l : Loaded (read .plan) (record { place = place; cells = c }) s) (n : ℕ) (words places filled : List ℕ)
+      (w : Played (machineOf s) n words places (machineOf s′) filled) where
+    lent : Played (machineFrom (read .plan) (getD place 0 0) (s .live) c) n words places (machineFrom (read .plan) (s′ .next) (s′ .live) (cellsOf s′)) filled
+    lent =
+        subst (λ (p : Plan). Played (machineFrom p (getD place 0 0) (s .live) c) n words places (machineFrom p (s′ .next) (s′ .live) (cellsOf s′)) filled) (l .plan-same)
+        (subst (λ (d : Cells). Played (machineFrom (s .plan) (getD place 0 0) (s .live) d) n words places (machineFrom (s .plan) (s′ .next) (s′ .live) (cellsOf s′)) filled) (l .cells-same)
+        (subst (λ (z : ℕ). Played (machineFrom (s .plan) z (s .live) (cellsOf s)) n words places (machineFrom (s .plan) (s′ .next) (s′ .live) (cellsOf s′)) filled) (l .next-same)
+        (by-value s s′ n words places filled w)))
+
+    pub values-few : s′ .live ≤ 4294967295
+    values-few = run-few (s .live) n (s′ .next) (s′ .live) (cellsOf s′) words places filled (l .live-fits) lent
+
+    pub runs-values : (word : ℕ) (place′ : List ℕ) → (place′ ≡ set (set place 0 (s′ .next)) 1 word) × (length place ≡ 2) → word ≡ s′ .live
+        → n ≡ min (length words / 3) (length places)
+        → Runs (planOfRow row) words (record { place = place; cells = c }) places n (record { place = place′; cells = cellsOf s′ }) filled
+    runs-values word place′ ep ew en = runs-some (s .live) n (s′ .next) (s′ .live) word (cellsOf s′) place′ words places filled ep (l .live-same) ew en lent
 
 module _ (row : List ℕ) (read : RowRead) (e : meant read ≡ planOfRow row) where
   pub runs-none : (h : Memory) (words places filled : List ℕ) (n : ℕ) → not (read .known) ≡ true

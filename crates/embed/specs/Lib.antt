@@ -1,1 +1,2 @@
 pub mod Embed
+pub mod Loading

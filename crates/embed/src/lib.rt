@@ -1,5 +1,7 @@
 // The monitor for a program in another language: exported functions over memory that the caller lends. What each promises
 // to a C program stands in include/monitor.h.
+use machine::State;
+use plan::Plan;
 use rules::Text;
 use rules::Verdict;
 ghost use mathlib.Core.Path.{_≡_};
@@ -10,6 +12,7 @@ ghost use Rattle.planrow.specs.Row.{planOfRow};
 ghost use Rattle.rules.specs.Judge.{judge};
 ghost use Rattle.rules.specs.Show.{locate};
 ghost use Rattle.embed.specs.Embed.{textNumber, verdictWords, partWords, held, Starts, Answers, AllRefused, Runs, ReplayedAll};
+ghost use Rattle.embed.specs.Loading.{Loaded};
 
 // Document 01's 20, also of a row that means no plan.
 const BAD_STATE: u32 = 20;
@@ -141,7 +144,7 @@ pub extern "C" fn monitor_step<'a>(
     let plan = read.plan;
     let next = place[0];
     let live = place[1];
-    let r = stepping::step(
+    let stepped = stepping::step(
         plan,
         next,
         wide(live),
@@ -152,8 +155,8 @@ pub extern "C" fn monitor_step<'a>(
         serial,
         branch,
     );
-    let answer = r.answer;
-    store(place, r.next, narrow(r.live));
+    let answer = stepped.answer;
+    store(place, stepped.next, narrow(stepped.live));
     playback::code_of(answer) as u32
 }
 
@@ -180,7 +183,7 @@ pub extern "C" fn monitor_send<'a>(
     let plan = read.plan;
     let next = place[0];
     let live = place[1];
-    let answer = delivery::send(
+    let sent = delivery::send(
         plan,
         next,
         wide(live),
@@ -191,7 +194,7 @@ pub extern "C" fn monitor_send<'a>(
         from,
         to,
     );
-    playback::code_of(answer) as u32
+    playback::code_of(sent) as u32
 }
 
 // Document 01, Raise. Only the labels change.
@@ -218,7 +221,7 @@ pub extern "C" fn monitor_raise<'a>(
     let plan = read.plan;
     let next = place[0];
     let live = place[1];
-    let answer = labelling::raise(
+    let raised = labelling::raise(
         plan,
         next,
         wide(live),
@@ -229,7 +232,7 @@ pub extern "C" fn monitor_raise<'a>(
         serial,
         identifier,
     );
-    playback::code_of(answer) as u32
+    playback::code_of(raised) as u32
 }
 
 // Document 01, Lower. Only the labels change.
@@ -256,7 +259,7 @@ pub extern "C" fn monitor_lower<'a>(
     let plan = read.plan;
     let next = place[0];
     let live = place[1];
-    let answer = labelling::lower(
+    let lowered = labelling::lower(
         plan,
         next,
         wide(live),
@@ -267,7 +270,7 @@ pub extern "C" fn monitor_lower<'a>(
         serial,
         identifier,
     );
-    playback::code_of(answer) as u32
+    playback::code_of(lowered) as u32
 }
 
 // 20 for each call of a row that means no plan.
@@ -307,7 +310,7 @@ pub extern "C" fn monitor_run<'a>(
     let plan = read.plan;
     let next = place[0];
     let live = place[1];
-    let r = playback::run_calls(
+    let ran = playback::run_calls(
         plan,
         next,
         wide(live),
@@ -318,8 +321,8 @@ pub extern "C" fn monitor_run<'a>(
         calls,
         answers,
     );
-    store(place, r.next, narrow(r.live));
-    r.count
+    store(place, ran.next, narrow(ran.live));
+    ran.count
 }
 
 // Both texts judged, the box started, and the calls run through it.
@@ -337,4 +340,70 @@ pub extern "C" fn monitor_replay<'a>(
     let verdict = replayed.verdict;
     *words = verdict_words(verdict);
     replayed.count
+}
+
+// The state that the row's plan and the lent memory are.
+fn state_of<'a>(
+    plan: Plan,
+    place: &'a [u32; 2],
+    serials: &'a [u32; 128],
+    templates: &'a [u8; 128],
+    labels: &'a [u32; 128],
+    tags: &'a [u32; 4096],
+) -> State
+    ensures { λ r.
+        let h = held (now (place .entry)) (now (serials .entry)) (now (templates .entry)) (now (labels .entry)) (now (tags .entry)) in
+        ⌜ Loaded plan h r ⌝ }
+{
+    let s = *serials;
+    let t = *templates;
+    let l = *labels;
+    let g = *tags;
+    let live = place[1];
+    State {
+        plan: plan,
+        next: place[0],
+        live: wide(live),
+        serials: s,
+        templates: t,
+        labels: l,
+        tags: g,
+    }
+}
+
+// The same as monitor_run through the operations by value, to be compared with it.
+#[no_mangle]
+pub extern "C" fn monitor_run_values<'a>(
+    row: &'a [u32; 514],
+    place: &'a mut [u32; 2],
+    serials: &'a mut [u32; 128],
+    templates: &'a mut [u8; 128],
+    labels: &'a mut [u32; 128],
+    tags: &'a mut [u32; 4096],
+    calls: &'a [u32],
+    answers: &'a mut [u8],
+) -> usize
+    ensures { λ r.
+        let h = held (now (place .entry)) (now (serials .entry)) (now (templates .entry)) (now (labels .entry)) (now (tags .entry)) in
+        let k = held (now (place .exit)) (now (serials .exit)) (now (templates .exit)) (now (labels .exit)) (now (tags .exit)) in
+        ⌜ Runs (planOfRow (now (row .entry))) (now (calls .entry)) h (now (answers .entry)) r k (now (answers .exit)) ⌝ }
+{
+    let read = planrow::read_row(row);
+    if !read.known {
+        return refuse_all(calls.len(), answers);
+    }
+    let plan = read.plan;
+    let state = state_of(plan, place, serials, templates, labels, tags);
+    let ran = values::run_calls(state, calls, answers);
+    let after = ran.state;
+    store(place, after.next, narrow(after.live));
+    let s = after.serials;
+    *serials = s;
+    let t = after.templates;
+    *templates = t;
+    let l = after.labels;
+    *labels = l;
+    let g = after.tags;
+    *tags = g;
+    ran.count
 }

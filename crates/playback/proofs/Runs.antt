@@ -21,22 +21,22 @@ use Rattle.playback.specs.Playback.{Played}
 
 -- ---- one call
 
-call-lower : (o x y : ℕ) → (o ≡ 0 → ⊥) → (o ≡ 1 → ⊥) → (o ≡ 2 → ⊥) → callOf o x y ≡ lower x y
+pub call-lower : (o x y : ℕ) → (o ≡ 0 → ⊥) → (o ≡ 1 → ⊥) → (o ≡ 2 → ⊥) → callOf o x y ≡ lower x y
 unfolding callOf
 call-lower zero x y e f g = absurd (e refl)
 call-lower (suc zero) x y e f g = absurd (f refl)
 call-lower (suc (suc zero)) x y e f g = absurd (g refl)
 call-lower (suc (suc (suc n))) x y e f g = refl
 
-call-step : (o x y : ℕ) → o ≡ 0 → callOf o x y ≡ step x y
+pub call-step : (o x y : ℕ) → o ≡ 0 → callOf o x y ≡ step x y
 unfolding callOf
 call-step o x y e = ap (λ (o : ℕ). callOf o x y) e
 
-call-send : (o x y : ℕ) → o ≡ 1 → callOf o x y ≡ send x y
+pub call-send : (o x y : ℕ) → o ≡ 1 → callOf o x y ≡ send x y
 unfolding callOf
 call-send o x y e = ap (λ (o : ℕ). callOf o x y) e
 
-call-raise : (o x y : ℕ) → o ≡ 2 → callOf o x y ≡ raise x y
+pub call-raise : (o x y : ℕ) → o ≡ 2 → callOf o x y ≡ raise x y
 unfolding callOf
 call-raise o x y e = ap (λ (o : ℕ). callOf o x y) e
 

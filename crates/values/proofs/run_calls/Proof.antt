@@ -1,0 +1,101 @@
+-- Before call i the state means the machine that the first i calls leave, and the first i answers are its own.
+-- The calls that are left grow fewer.
+use Prim.Native.Nat.{_-_}
+use borrow.Author.Needs.{needs}
+use Rattle.machine.specs.State.{machineOf}
+use Rattle.playback.proofs.Runs.{callAt, Stands, stands-none, stands-more, played}
+use Rattle.values.proofs.run_calls.Statement.{statement}
+use Rattle.values.proofs.run_calls.Tie as tie
+
+abbrev Inv-loop : tie.InvT-loop
+Inv-loop calls answers₀ n s₀ i₀ answers s i = Stands (machineOf s₀) (callAt calls) n i answers₀ (machineOf s) answers
+
+abbrev μ-loop : tie.MeasureT-loop
+μ-loop calls answers₀ n s₀ i₀ answers s i = n - i
+
+call-count-requires : tie.Need-call-count-requires Inv-loop μ-loop
+call-count-requires c κs = search needs
+
+loop-holds : tie.Need-loop-holds Inv-loop μ-loop
+loop-holds c = stands-none _ _ _ _
+
+mul-take-call : tie.Need-mul-take-call Inv-loop μ-loop
+mul-take-call c = search needs
+
+mul-take-call-2 : tie.Need-mul-take-call-2 Inv-loop μ-loop
+mul-take-call-2 c = search needs
+
+shared-slice-read-take-call : tie.Need-shared-slice-read-take-call Inv-loop μ-loop
+shared-slice-read-take-call c = search needs
+
+mul-take-call-3 : tie.Need-mul-take-call-3 Inv-loop μ-loop
+mul-take-call-3 c = search needs
+
+add-take-call : tie.Need-add-take-call Inv-loop μ-loop
+add-take-call c = search needs
+
+mul-take-call-4 : tie.Need-mul-take-call-4 Inv-loop μ-loop
+mul-take-call-4 c = search needs
+
+shared-slice-read-take-call-2 : tie.Need-shared-slice-read-take-call-2 Inv-loop μ-loop
+shared-slice-read-take-call-2 c = search needs
+
+mul-take-call-5 : tie.Need-mul-take-call-5 Inv-loop μ-loop
+mul-take-call-5 c = search needs
+
+add-take-call-2 : tie.Need-add-take-call-2 Inv-loop μ-loop
+add-take-call-2 c = search needs
+
+mul-take-call-6 : tie.Need-mul-take-call-6 Inv-loop μ-loop
+mul-take-call-6 c = search needs
+
+shared-slice-read-take-call-3 : tie.Need-shared-slice-read-take-call-3 Inv-loop μ-loop
+shared-slice-read-take-call-3 c = search needs
+
+take-call-requires : tie.Need-take-call-requires Inv-loop μ-loop
+take-call-requires c κs = search needs
+
+slice-write-answers : tie.Need-slice-write-answers Inv-loop μ-loop
+slice-write-answers c = search needs
+
+add-i : tie.Need-add-i Inv-loop μ-loop
+add-i c = search needs
+
+loop-less : tie.Need-loop-less Inv-loop μ-loop
+loop-less c = search needs
+
+loop-again : tie.Need-loop-again Inv-loop μ-loop
+loop-again c = search stands-more
+
+same-length : tie.Need-same-length Inv-loop μ-loop
+same-length c = search needs
+
+returns : tie.Need-returns Inv-loop μ-loop
+returns c = (search needs, search played)
+
+pub run-calls-spec : {M : Type 1} → statement M
+run-calls-spec =
+    tie.close
+    (tie.spec
+    Inv-loop
+    μ-loop
+    call-count-requires
+    loop-holds
+    mul-take-call
+    mul-take-call-2
+    shared-slice-read-take-call
+    mul-take-call-3
+    add-take-call
+    mul-take-call-4
+    shared-slice-read-take-call-2
+    mul-take-call-5
+    add-take-call-2
+    mul-take-call-6
+    shared-slice-read-take-call-3
+    take-call-requires
+    slice-write-answers
+    add-i
+    loop-less
+    loop-again
+    same-length
+    returns)
