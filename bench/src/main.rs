@@ -24,9 +24,10 @@ fn main() {
     let (calls, mixed) = if quick { (5_000, 20_000) } else { (100_000, 1_000_000) };
     println!("Thread CPU time, medians of {turns} interleaved turns, equal checksums asserted. Microseconds a verdict:\n");
     judging::table(turns);
-    println!("\nHow the judge's time grows (docs/judge-growth.svg): 32 identifiers, every template a `both`, prots that hold.\n");
+    println!("\nHow the judge's time grows: 32 identifiers, every template a `both`, prots that hold.\n");
     let plot = growth::plot(turns);
     if let Some(path) = svg.first() {
+        println!("\n![ms a verdict against templates × assertions](judge-growth.svg)");
         std::fs::write(path, plot).unwrap_or_else(|e| panic!("{path}: {e}"));
     }
     println!("\nNanoseconds a call, {calls} calls of one kind, {mixed} mixed; by value a tenth of them. {LEGEND}\n");
