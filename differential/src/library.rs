@@ -1,172 +1,81 @@
-//! The proved library, with the memory that it is lent, in the reference's own words.
+//! The proved library's memory, verdicts and answers beside the reference's.
 
+use monitor::{sys, Monitor};
 use reference::judge::{Text, Verdict};
 use reference::machine::{Answer, State};
 use reference::plan::{Form, Plan};
 use reference::replay::Call;
 use reference::rng::Rng;
 
-/// The plan as a row of words, next and live, and the arrays. Tag i of place p stands at M p + i.
-#[derive(Clone, PartialEq)]
-pub struct Lent {
-    pub row: [u32; 514],
-    pub place: [u32; 2],
-    pub serials: [u32; 128],
-    pub templates: [u8; 128],
-    pub labels: [u32; 128],
-    pub tags: [u32; 4096],
-}
-
-mod raw {
-    extern "C" {
-        pub fn monitor_judge(plan: *const u8, plan_len: usize, policy: *const u8, policy_len: usize, verdict: *mut u32);
-        pub fn monitor_locate(plan: *const u8, plan_len: usize, policy: *const u8, policy_len: usize, part: *mut usize);
-        pub fn monitor_start(
-            plan: *const u8, plan_len: usize, policy: *const u8, policy_len: usize, verdict: *mut u32, row: *mut u32,
-            place: *mut u32, serials: *mut u32, templates: *mut u8, labels: *mut u32, tags: *mut u32,
-        );
-        pub fn monitor_step(
-            row: *const u32, place: *mut u32, serials: *mut u32, templates: *mut u8, labels: *mut u32, tags: *mut u32,
-            serial: u32, branch: u32,
-        ) -> u32;
-        pub fn monitor_send(
-            row: *const u32, place: *const u32, serials: *const u32, templates: *const u8, labels: *const u32,
-            tags: *const u32, from: u32, to: u32,
-        ) -> u32;
-        pub fn monitor_raise(
-            row: *const u32, place: *const u32, serials: *const u32, templates: *const u8, labels: *mut u32,
-            tags: *const u32, serial: u32, identifier: u32,
-        ) -> u32;
-        pub fn monitor_lower(
-            row: *const u32, place: *const u32, serials: *const u32, templates: *const u8, labels: *mut u32,
-            tags: *const u32, serial: u32, identifier: u32,
-        ) -> u32;
-        pub fn monitor_run(
-            row: *const u32, place: *mut u32, serials: *mut u32, templates: *mut u8, labels: *mut u32, tags: *mut u32,
-            calls: *const u32, words: usize, answers: *mut u8, places: usize,
-        ) -> usize;
-        pub fn monitor_replay(
-            plan: *const u8, plan_len: usize, policy: *const u8, policy_len: usize, calls: *const u32, words: usize,
-            answers: *mut u8, places: usize, verdict: *mut u32,
-        ) -> usize;
+/// Memory that holds anything.
+pub fn junk(r: &mut Rng) -> Box<Monitor> {
+    let mut m = Monitor::blank();
+    for words in [&mut m.row[..], &mut m.place, &mut m.serials, &mut m.labels, &mut m.tags] {
+        words.fill_with(|| r.next() as u32);
     }
+    m.templates.fill_with(|| r.next() as u8);
+    m
 }
 
-pub fn judge(plan: &[u8], policy: &[u8]) -> [u32; 5] {
-    let mut verdict = [77; 5];
-    unsafe { raw::monitor_judge(plan.as_ptr(), plan.len(), policy.as_ptr(), policy.len(), verdict.as_mut_ptr()) };
-    verdict
+/// A state of the reference whose next serial fits a word; what carries no meaning holds anything.
+pub fn memory_of(r: &mut Rng, s: &State) -> Box<Monitor> {
+    let mut memory = junk(r);
+    write_row(&mut memory.row, &s.plan);
+    for (x, t) in s.plan.templates[..(s.plan.n as usize).min(64)].iter().enumerate() {
+        // a successor that the form lacks
+        (t.form.successors().count()..2).for_each(|k| memory.row[3 + 8 * x + k] = r.below(256) as u32);
+    }
+    memory.place = [s.next as u32, s.live];
+    (memory.serials, memory.templates, memory.labels) = (s.serials, s.templates, s.labels);
+    let m = s.plan.m as usize;
+    if m <= 32 {
+        for p in 0..(s.live as usize).min(128) {
+            memory.tags[m * p..m * p + m].copy_from_slice(&s.tags[32 * p..32 * p + m]);
+        }
+    }
+    memory
 }
 
-pub fn locate(plan: &[u8], policy: &[u8]) -> [usize; 3] {
-    let mut part = [77; 3];
-    unsafe { raw::monitor_locate(plan.as_ptr(), plan.len(), policy.as_ptr(), policy.len(), part.as_mut_ptr()) };
-    part
-}
-
-pub fn replay(plan: &[u8], policy: &[u8], calls: &[u32], answers: &mut [u8]) -> (usize, [u32; 5]) {
-    let mut verdict = [77; 5];
-    let played = unsafe {
-        raw::monitor_replay(
-            plan.as_ptr(), plan.len(), policy.as_ptr(), policy.len(), calls.as_ptr(), calls.len(), answers.as_mut_ptr(),
-            answers.len(), verdict.as_mut_ptr(),
+/// Started over memory that holds anything, and all words of the verdict.
+pub fn start(r: &mut Rng, plan: &[u8], policy: &[u8]) -> (Box<Monitor>, [u32; 5]) {
+    let (mut m, mut verdict) = (junk(r), [77; 5]);
+    // SAFETY: the texts are lent for the call, and the arrays are apart from each other.
+    unsafe {
+        sys::monitor_start(
+            plan.as_ptr(), plan.len(), policy.as_ptr(), policy.len(), &mut verdict, &mut m.row, &mut m.place,
+            &mut m.serials, &mut m.templates, &mut m.labels, &mut m.tags,
         )
     };
-    (played, verdict)
+    (m, verdict)
 }
 
-impl Lent {
-    /// Memory that holds anything.
-    pub fn junk(r: &mut Rng) -> Lent {
-        let mut l = Lent { row: [0; 514], place: [0; 2], serials: [0; 128], templates: [0; 128], labels: [0; 128], tags: [0; 4096] };
-        for words in [&mut l.row[..], &mut l.place, &mut l.serials, &mut l.labels, &mut l.tags] {
-            words.fill_with(|| r.next() as u32);
-        }
-        l.templates.fill_with(|| r.next() as u8);
-        l
-    }
+pub fn call(m: &mut Monitor, call: Call) -> u8 {
+    let answer = match call {
+        Call::Step(serial, branch) => m.step(serial, branch),
+        Call::Send(from, to) => m.send(from, to),
+        Call::Raise(serial, identifier) => m.raise(serial, identifier),
+        Call::Lower(serial, identifier) => m.lower(serial, identifier),
+    };
+    answer.code()
+}
 
-    /// A state of the reference whose next serial fits a word; what carries no meaning holds anything.
-    pub fn of(r: &mut Rng, s: &State) -> Lent {
-        let mut l = Lent::junk(r);
-        write_row(&mut l.row, &s.plan);
-        for (x, t) in s.plan.templates[..(s.plan.n as usize).min(64)].iter().enumerate() {
-            // a successor that the form lacks
-            (t.form.successors().count()..2).for_each(|k| l.row[3 + 8 * x + k] = r.below(256) as u32);
-        }
-        l.place = [s.next as u32, s.live];
-        (l.serials, l.templates, l.labels) = (s.serials, s.templates, s.labels);
-        let m = s.plan.m as usize;
-        if m <= 32 {
-            for p in 0..(s.live as usize).min(128) {
-                l.tags[m * p..m * p + m].copy_from_slice(&s.tags[32 * p..32 * p + m]);
-            }
-        }
-        l
-    }
+/// The row has the words of this plan.
+pub fn row_is(memory: &Monitor, plan: &Plan) -> bool {
+    let mut row = memory.row;
+    write_row(&mut row, plan);
+    row == memory.row
+}
 
-    pub fn start(r: &mut Rng, plan: &[u8], policy: &[u8]) -> (Lent, [u32; 5]) {
-        let (mut l, mut verdict) = (Lent::junk(r), [77; 5]);
-        unsafe {
-            raw::monitor_start(
-                plan.as_ptr(), plan.len(), policy.as_ptr(), policy.len(), verdict.as_mut_ptr(), l.row.as_mut_ptr(),
-                l.place.as_mut_ptr(), l.serials.as_mut_ptr(), l.templates.as_mut_ptr(), l.labels.as_mut_ptr(),
-                l.tags.as_mut_ptr(),
-            )
-        };
-        (l, verdict)
-    }
-
-    pub fn call(&mut self, call: Call) -> u32 {
-        let (row, place) = (self.row.as_ptr(), self.place.as_mut_ptr());
-        let (serials, templates) = (self.serials.as_mut_ptr(), self.templates.as_mut_ptr());
-        let (labels, tags) = (self.labels.as_mut_ptr(), self.tags.as_mut_ptr());
-        unsafe {
-            match call {
-                Call::Step(x, y) => raw::monitor_step(row, place, serials, templates, labels, tags, x, y),
-                Call::Send(x, y) => raw::monitor_send(row, place, serials, templates, labels, tags, x, y),
-                Call::Raise(x, y) => raw::monitor_raise(row, place, serials, templates, labels, tags, x, y),
-                Call::Lower(x, y) => raw::monitor_lower(row, place, serials, templates, labels, tags, x, y),
-            }
-        }
-    }
-
-    pub fn run(&mut self, calls: &[u32], answers: &mut [u8]) -> usize {
-        unsafe {
-            raw::monitor_run(
-                self.row.as_ptr(), self.place.as_mut_ptr(), self.serials.as_mut_ptr(), self.templates.as_mut_ptr(),
-                self.labels.as_mut_ptr(), self.tags.as_mut_ptr(), calls.as_ptr(), calls.len(), answers.as_mut_ptr(),
-                answers.len(),
-            )
-        }
-    }
-
-    /// The row has the words of this plan.
-    pub fn row_is(&self, plan: &Plan) -> bool {
-        let mut row = self.row;
-        write_row(&mut row, plan);
-        row == self.row
-    }
-
-    /// Next, live and the arrays mean the same as in a state of the reference that is not bad.
-    pub fn means(&self, s: &State) -> bool {
-        let m = s.plan.m as usize;
-        self.place == [s.next as u32, s.live]
-            && (0..s.live as usize).all(|p| {
-                self.serials[p] == s.serials[p]
-                    && self.templates[p] == s.templates[p]
-                    && self.labels[p] == s.labels[p]
-                    && self.tags[m * p..m * p + m] == s.tags[32 * p..32 * p + m]
-            })
-    }
-
-    /// All words, so that the state can be made again.
-    pub fn dump(&self) -> String {
-        format!(
-            "row={:?}\nplace={:?}\nserials={:?}\ntemplates={:?}\nlabels={:?}\ntags={:?}\n",
-            self.row, self.place, self.serials, self.templates, self.labels, self.tags
-        )
-    }
+/// Next, live and the arrays mean the same as in a state of the reference that is not bad.
+pub fn means(memory: &Monitor, s: &State) -> bool {
+    let m = s.plan.m as usize;
+    memory.place == [s.next as u32, s.live]
+        && (0..s.live as usize).all(|p| {
+            memory.serials[p] == s.serials[p]
+                && memory.templates[p] == s.templates[p]
+                && memory.labels[p] == s.labels[p]
+                && memory.tags[m * p..m * p + m] == s.tags[32 * p..32 * p + m]
+        })
 }
 
 /// The words of templates at N and above stay.
@@ -184,8 +93,11 @@ fn write_row(row: &mut [u32; 514], plan: &Plan) {
     }
 }
 
-pub fn text_word(text: Text) -> u32 {
-    (text == Text::Policy) as u32
+pub fn text(text: Text) -> monitor::Text {
+    match text {
+        Text::Plan => monitor::Text::Plan,
+        Text::Policy => monitor::Text::Policy,
+    }
 }
 
 /// The reference's verdict in the library's words.
@@ -193,8 +105,12 @@ pub fn verdict_words(verdict: &Verdict) -> [u32; 5] {
     match verdict {
         Verdict::Accepted => [0; 5],
         Verdict::Broken(b) => [1, b.rule as u32, b.first as u32, b.second as u32, b.identifier as u32],
-        Verdict::Unread(text, r) => [2, text_word(*text), r.number as u32, r.line as u32, 0],
+        Verdict::Unread(text, r) => [2, (*text == Text::Policy) as u32, r.number as u32, r.line as u32, 0],
     }
+}
+
+pub fn verdict(verdict: &Verdict) -> monitor::Verdict {
+    monitor::Verdict::from_words(verdict_words(verdict))
 }
 
 pub fn code(answer: Answer) -> u8 {

@@ -1,8 +1,9 @@
 //! Lists of calls on accepted pairs: singly, as one run and as a replay, with the box promise watched by the reference.
 
-use crate::library::{self, code, verdict_words, words, Lent};
+use crate::library::{self, code, words};
 use crate::tally::{same, with_input, Checked, Tally};
 use crate::texts::{pair_of, texts};
+use monitor::Monitor;
 use reference::generate::{calls, Draft, Style};
 use reference::history::promise;
 use reference::judge::Verdict;
@@ -54,7 +55,7 @@ pub fn check(r: &mut Rng, tally: &mut Tally, d: &Draft) -> Checked {
     let input = || texts(&plan, &policy) + &list.iter().map(|c| c.text()).collect::<String>();
     let (answers, end, breach) = promise(&d.plan, &d.policy, &list, 10);
     with_input(same("the promise", breach, None), input)?;
-    let (start, _) = Lent::start(r, &plan, &policy);
+    let (start, _) = library::start(r, &plan, &policy);
     let mut s = reference::machine::started(d.plan);
     with_input(singly(tally, &mut start.clone(), &mut s, &list), input)?;
     with_input(as_run(r, &mut start.clone(), &list, &answers, &end), input)?;
@@ -67,18 +68,18 @@ pub fn check(r: &mut Rng, tally: &mut Tally, d: &Draft) -> Checked {
 }
 
 /// Each call on both sides; answers, meaning, and no word changed where the call changes nothing.
-pub fn singly(tally: &mut Tally, lent: &mut Lent, s: &mut State, list: &[Call]) -> Checked {
+pub fn singly(tally: &mut Tally, memory: &mut Monitor, s: &mut State, list: &[Call]) -> Checked {
     for (i, &call) in list.iter().enumerate() {
-        let before = lent.clone();
-        let got = lent.call(call);
+        let before = memory.clone();
+        let got = library::call(memory, call);
         let answer = call.run(s);
         let here = format!("call {i}, {}", call.text().trim_end());
-        same(&here, got, code(answer) as u32)?;
+        same(&here, got, code(answer))?;
         if answer == Answer::Done {
-            same(&format!("{here}: the state after it means the reference's"), lent.means(s), true)?;
-            same(&format!("{here}: the row is as before"), lent.row == before.row, true)?;
+            same(&format!("{here}: the state after it means the reference's"), library::means(memory, s), true)?;
+            same(&format!("{here}: the row is as before"), memory.row == before.row, true)?;
         } else {
-            same(&format!("{here}: every word is as before"), *lent == before, true)?;
+            same(&format!("{here}: every word is as before"), *memory == before, true)?;
         }
         tally.add(SINGLE, &kind(answer), 1);
     }
@@ -107,20 +108,20 @@ fn answered(what: &str, played: usize, got: &[u8], answers: &[Answer]) -> Checke
 }
 
 /// All calls at once; where not all were played, the rest in a second run.
-pub fn as_run(r: &mut Rng, lent: &mut Lent, list: &[Call], answers: &[Answer], end: &State) -> Checked {
+pub fn as_run(r: &mut Rng, memory: &mut Monitor, list: &[Call], answers: &[Answer], end: &State) -> Checked {
     let (w, mut got) = laid_out(r, list);
-    let played = lent.run(&w, &mut got);
+    let played = memory.run_into(&w, &mut got);
     answered("run", played, &got, answers)?;
     let mut rest = vec![99; list.len() - played];
-    let played_rest = lent.run(&w[3 * played..], &mut rest);
+    let played_rest = memory.run_into(&w[3 * played..], &mut rest);
     answered("a second run", played_rest, &rest, &answers[played..])?;
-    same("the state after run means the reference's", lent.means(end), true)
+    same("the state after run means the reference's", library::means(memory, end), true)
 }
 
 fn as_replay(r: &mut Rng, plan: &[u8], policy: &[u8], list: &[Call], answers: &[Answer]) -> Checked {
     let (w, mut got) = laid_out(r, list);
-    let (played, verdict) = library::replay(plan, policy, &w, &mut got);
-    same("replay's verdict", verdict, verdict_words(&Verdict::Accepted))?;
+    let (verdict, played) = monitor::replay_into(plan, policy, &w, &mut got);
+    same("replay's verdict", verdict, monitor::Verdict::Accepted)?;
     answered("replay", played, &got, answers)
 }
 
@@ -128,7 +129,7 @@ fn as_replay(r: &mut Rng, plan: &[u8], policy: &[u8], list: &[Call], answers: &[
 pub fn not_played(r: &mut Rng, plan: &[u8], policy: &[u8], verdict: &Verdict) -> Checked {
     let list = [wild(r), wild(r)];
     let (w, mut got) = laid_out(r, &list);
-    let (played, words) = library::replay(plan, policy, &w, &mut got);
-    same("replay's verdict", words, verdict_words(verdict))?;
+    let (answer, played) = monitor::replay_into(plan, policy, &w, &mut got);
+    same("replay's verdict", answer, library::verdict(verdict))?;
     answered("replay of texts that are not accepted", played, &got, &[])
 }

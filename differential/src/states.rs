@@ -1,8 +1,9 @@
 //! Hand-made states: good ones, bad ones in each way of 20, and plan rows that mean no plan.
 
-use crate::lists::{as_run, singly};
-use crate::library::Lent;
-use crate::tally::{with_input, Checked, Tally};
+use crate::library;
+use crate::lists::{as_run, singly, SINGLE};
+use crate::tally::{same, with_input, Checked, Tally};
+use monitor::Monitor;
 use reference::generate::any_call;
 use reference::machine::{Answer, State, MAX_NEXT};
 use reference::plan::Plan;
@@ -32,20 +33,21 @@ fn chosen(r: &mut Rng, s: &State, count: usize) -> (Vec<Call>, Vec<Answer>, Stat
     (list, answers, end)
 }
 
-fn input(lent: &Lent, list: &[Call]) -> String {
-    lent.dump() + &list.iter().map(|c| c.text()).collect::<String>()
+/// All words, so that the state can be made again, and the calls.
+fn input(memory: &Monitor, list: &[Call]) -> String {
+    format!("{memory:?}\n") + &list.iter().map(|c| c.text()).collect::<String>()
 }
 
 /// A good state over this plan, then the same made bad, then the same with a row that means no plan.
 pub fn check(r: &mut Rng, tally: &mut Tally, plan: &Plan) -> Checked {
     let s = state(r, plan);
     let (list, answers, end) = chosen(r, &s, 8);
-    let lent = Lent::of(r, &s);
+    let memory = library::memory_of(r, &s);
     let compare = |r: &mut Rng, tally: &mut Tally| {
-        singly(tally, &mut lent.clone(), &mut s.clone(), &list)?;
-        as_run(r, &mut lent.clone(), &list, &answers, &end)
+        singly(tally, &mut memory.clone(), &mut s.clone(), &list)?;
+        as_run(r, &mut memory.clone(), &list, &answers, &end)
     };
-    with_input(compare(r, tally), || input(&lent, &list))?;
+    with_input(compare(r, tally), || input(&memory, &list))?;
     let limit = if s.next + 2 > MAX_NEXT { "next at its limit" } else { "next below its limit" };
     tally.add(GOOD, limit, 1);
     tally.passed += 1;
@@ -60,8 +62,8 @@ fn bad(r: &mut Rng, tally: &mut Tally, good: &State, list: &[Call]) -> Checked {
         s = *good;
         way = spoil(r, &mut s);
     }
-    let lent = Lent::of(r, &s);
-    with_input(all_refused(r, tally, &lent, list), || input(&lent, list))?;
+    let memory = library::memory_of(r, &s);
+    with_input(all_refused(r, tally, &memory, list), || input(&memory, list))?;
     tally.add(BAD, WAYS[way], 1);
     tally.passed += 1;
     Ok(())
@@ -72,27 +74,25 @@ fn no_plan(r: &mut Rng, tally: &mut Tally, s: &State, list: &[Call]) -> Checked 
     let x = r.below(s.plan.n as usize);
     let fault = r.below(FAULTS.len());
     let (word, least) = [(0, 4), (1, 256), (2, 256), (7, 2)][fault];
-    let mut lent = Lent::of(r, s);
-    lent.row[2 + 8 * x + word] = *r.pick(&[least, least + 1, 256 + least, 65_536, 1 << 31, u32::MAX]);
-    with_input(all_refused(r, tally, &lent, list), || input(&lent, list))?;
+    let mut memory = library::memory_of(r, s);
+    memory.row[2 + 8 * x + word] = *r.pick(&[least, least + 1, 256 + least, 65_536, 1 << 31, u32::MAX]);
+    with_input(all_refused(r, tally, &memory, list), || input(&memory, list))?;
     tally.add(NO_PLAN, FAULTS[fault], 1);
     tally.passed += 1;
     Ok(())
 }
 
 /// Every call is answered 20 and nothing changes.
-fn all_refused(r: &mut Rng, tally: &mut Tally, lent: &Lent, list: &[Call]) -> Checked {
-    use crate::library::words;
-    use crate::tally::same;
-    let mut now = lent.clone();
+fn all_refused(r: &mut Rng, tally: &mut Tally, memory: &Monitor, list: &[Call]) -> Checked {
+    let mut now = memory.clone();
     for call in list {
-        same(call.text().trim_end(), now.call(*call), 20)?;
-        same("every word is as before", now == *lent, true)?;
-        tally.add(crate::lists::SINGLE, "refused 20", 1);
+        same(call.text().trim_end(), library::call(&mut now, *call), 20)?;
+        same("every word is as before", now == *memory, true)?;
+        tally.add(SINGLE, "refused 20", 1);
     }
     let mut answers = vec![99; list.len()];
-    let played = now.run(&words(r, list), &mut answers);
+    let played = now.run_into(&library::words(r, list), &mut answers);
     same("calls played by run", played, list.len())?;
     same("answers of run", answers, vec![20; list.len()])?;
-    same("every word is as before the run", now == *lent, true)
+    same("every word is as before the run", now == *memory, true)
 }

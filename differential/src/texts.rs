@@ -1,8 +1,9 @@
 //! Pairs of texts: what is made of them, and the verdict, the part shown and what start answers.
 
-use crate::library::{self, text_word, verdict_words, Lent};
+use crate::library;
 use crate::lists::not_played;
 use crate::tally::{same, with_input, Checked, Tally};
+use monitor::{Monitor, Part};
 use reference::damage::{corners, damaged, overlong, Pair};
 use reference::generate::Draft;
 use reference::judge::{judge, locate, read, Text, Verdict};
@@ -106,17 +107,17 @@ pub fn pair_of(d: &Draft) -> Pair {
 pub fn check(r: &mut Rng, tally: &mut Tally, made: &str, (plan, policy): &Pair) -> Checked {
     let verdict = judge(plan, policy);
     let mut compare = || -> Checked {
-        same("judge", library::judge(plan, policy), verdict_words(&verdict))?;
+        same("judge", monitor::judge(plan, policy), library::verdict(&verdict))?;
         let (text, start, end) = locate(plan, policy);
-        same("locate", library::locate(plan, policy), [text_word(text) as usize, start, end])?;
-        let (lent, words) = Lent::start(r, plan, policy);
-        same("start's verdict", words, verdict_words(&verdict))?;
+        same("locate", monitor::locate(plan, policy), Part { text: library::text(text), start, end })?;
+        let (memory, words) = library::start(r, plan, policy);
+        same("start's verdict", words, library::verdict_words(&verdict))?;
         if verdict == Verdict::Accepted {
             let (p, _) = read_plan(plan).expect("an accepted plan was read");
-            same("start's row is the plan", lent.row_is(&p), true)?;
-            same("start's state means the started machine", lent.means(&started(p)), true)?;
+            same("start's row is the plan", library::row_is(&memory, &p), true)?;
+            same("start's state means the started machine", library::means(&memory, &started(p)), true)?;
         } else {
-            same("start's place where not accepted", lent.place, [0, 0])?;
+            same("start's memory is blank where not accepted", memory == Monitor::blank(), true)?;
             not_played(r, plan, policy, &verdict)?;
         }
         Ok(())
