@@ -1,10 +1,11 @@
 //! The judge and the readers beside the reference's, and how the judge's time grows.
 
 use crate::clock::{medians, timed, Variant};
-use crate::library;
+use monitor::Verdict;
 use reference::generate::Draft;
-use reference::judge::{judge, Verdict};
-use reference::plan::{Assertion, Form, Kind, Plan, BLANK};
+use reference::judge::{self, Text};
+use reference::plan::{Assertion, Form, Kind, Plan, Template, BLANK};
+use std::hint::black_box;
 
 /// n `both` templates, m identifiers that the root makes, and k prots that hold: no search is cut short by a result.
 pub fn costly(n: usize, m: u32, k: usize) -> Draft {
@@ -13,7 +14,7 @@ pub fn costly(n: usize, m: u32, k: usize) -> Draft {
     for x in 0..n {
         let to = |i: usize| (1 + i % (n - 1)) as u8;
         let creates = if x == 0 { all } else { 0 };
-        plan.templates[x] = reference::plan::Template { form: Form::Both(to(x), to(5 * x + 2)), lab: all, creates, ..BLANK };
+        plan.templates[x] = Template { form: Form::Both(to(x), to(5 * x + 2)), lab: all, creates, ..BLANK };
     }
     let prot = |i: usize| Assertion {
         kind: Kind::Prot,
@@ -26,33 +27,50 @@ pub fn costly(n: usize, m: u32, k: usize) -> Draft {
     Draft { names, plan, policy: (0..k).map(prot).collect() }
 }
 
-fn words(verdict: &Verdict) -> [u32; 5] {
-    match verdict {
-        Verdict::Accepted => [0; 5],
-        Verdict::Broken(b) => [1, b.rule as u32, b.first as u32, b.second as u32, b.identifier as u32],
-        Verdict::Unread(text, r) => [2, (text.word() == "policy") as u32, r.number as u32, r.line as u32, 0],
+/// The reference's verdict in the library's words.
+fn judged(plan: &[u8], policy: &[u8]) -> Verdict {
+    match judge::judge(plan, policy) {
+        judge::Verdict::Accepted => Verdict::Accepted,
+        judge::Verdict::Broken(b) => Verdict::Broken {
+            rule: b.rule as u32,
+            first: b.first as u32,
+            second: b.second as u32,
+            identifier: b.identifier as u32,
+        },
+        judge::Verdict::Unread(text, r) => {
+            let text = if text == Text::Plan { monitor::Text::Plan } else { monitor::Text::Policy };
+            Verdict::Unread { text, number: r.number as u32, line: r.line as u32 }
+        }
     }
 }
 
-fn sum(words: [u32; 5]) -> u64 {
-    words.iter().fold(0, |sum, &word| sum * 1000 + word as u64)
+/// A number for a verdict, so that equal verdicts have equal checksums and others not.
+fn sum(verdict: Verdict) -> u64 {
+    let of = |words: [u32; 5]| words.iter().fold(0, |sum, &word| sum * 1000 + word as u64);
+    match verdict {
+        Verdict::Accepted => of([0; 5]),
+        Verdict::Broken { rule, first, second, identifier } => of([1, rule, first, second, identifier]),
+        Verdict::Unread { text, number, line } => of([2, (text == monitor::Text::Policy) as u32, number, line, 0]),
+    }
 }
 
 /// Nanoseconds a verdict: the library, the reference.
 pub fn pair(turns: usize, times: usize, plan: &[u8], policy: &[u8]) -> Vec<f64> {
-    let repeated = |judge: &dyn Fn() -> [u32; 5]| {
-        let (time, words) = timed(|| (0..times).map(|_| std::hint::black_box(judge())).last());
-        (time / times as f64, sum(words.unwrap_or([9; 5])))
+    let repeated = |judge: fn(&[u8], &[u8]) -> Verdict| -> Variant {
+        Box::new(move || {
+            let (time, verdict) = timed(|| (0..times).fold(None, |_, _| Some(black_box(judge(plan, policy)))));
+            (time / times as f64, verdict.map_or(0, sum))
+        })
     };
-    let variants: Vec<Variant> = vec![
-        Box::new(move || repeated(&|| library::judge(plan, policy))),
-        Box::new(move || repeated(&|| words(&judge(plan, policy)))),
-    ];
-    medians(turns, variants)
+    medians(turns, vec![repeated(monitor::judge), repeated(judged)])
 }
 
 fn row(turns: usize, times: usize, name: &str, plan: &[u8], policy: &[u8]) {
-    let kind = ["accepted", "broken", "unread"][library::judge(plan, policy)[0] as usize];
+    let kind = match judged(plan, policy) {
+        Verdict::Accepted => "accepted",
+        Verdict::Broken { .. } => "broken",
+        Verdict::Unread { .. } => "unread",
+    };
     let t = pair(turns, times, plan, policy);
     println!("| {name} | {kind} | {:.1} | {:.1} | {:.2} |", t[0] / 1000.0, t[1] / 1000.0, t[0] / t[1]);
 }

@@ -1,73 +1,47 @@
-//! The proved library, with the memory that it is lent.
+//! What only the benchmark calls of the proved library: a list of calls through the operations by value.
 
-#[derive(Clone)]
-pub struct Lent {
-    pub row: [u32; 514],
-    pub place: [u32; 2],
-    pub serials: [u32; 128],
-    pub templates: [u8; 128],
-    pub labels: [u32; 128],
-    pub tags: [u32; 4096],
-}
-
-type Run = unsafe extern "C" fn(
-    *const u32, *mut u32, *mut u32, *mut u8, *mut u32, *mut u32, *const u32, usize, *mut u8, usize,
-) -> usize;
+use monitor::Monitor;
 
 extern "C" {
-    fn monitor_judge(plan: *const u8, plan_len: usize, policy: *const u8, policy_len: usize, verdict: *mut u32);
-    fn monitor_start(
-        plan: *const u8, plan_len: usize, policy: *const u8, policy_len: usize, verdict: *mut u32, row: *mut u32,
-        place: *mut u32, serials: *mut u32, templates: *mut u8, labels: *mut u32, tags: *mut u32,
-    );
-    fn monitor_run(
-        row: *const u32, place: *mut u32, serials: *mut u32, templates: *mut u8, labels: *mut u32, tags: *mut u32,
-        calls: *const u32, words: usize, answers: *mut u8, places: usize,
-    ) -> usize;
     fn monitor_run_values(
-        row: *const u32, place: *mut u32, serials: *mut u32, templates: *mut u8, labels: *mut u32, tags: *mut u32,
-        calls: *const u32, words: usize, answers: *mut u8, places: usize,
+        row: *const [u32; 514],
+        place: *mut [u32; 2],
+        serials: *mut [u32; 128],
+        templates: *mut [u8; 128],
+        labels: *mut [u32; 128],
+        tags: *mut [u32; 4096],
+        calls: *const u32,
+        words: usize,
+        answers: *mut u8,
+        places: usize,
     ) -> usize;
 }
 
-pub fn judge(plan: &[u8], policy: &[u8]) -> [u32; 5] {
-    let mut verdict = [0; 5];
-    unsafe { monitor_judge(plan.as_ptr(), plan.len(), policy.as_ptr(), policy.len(), verdict.as_mut_ptr()) };
-    verdict
+pub fn run_values(m: &mut Monitor, calls: &[u32], answers: &mut [u8]) {
+    // SAFETY: the arrays are fields of one box, apart from each other; no more than the length of `answers` is written.
+    let played = unsafe {
+        monitor_run_values(
+            &m.row, &mut m.place, &mut m.serials, &mut m.templates, &mut m.labels, &mut m.tags, calls.as_ptr(), calls.len(),
+            answers.as_mut_ptr(), answers.len(),
+        )
+    };
+    assert_eq!(played, answers.len());
 }
 
-impl Lent {
-    pub fn start(plan: &[u8], policy: &[u8]) -> Lent {
-        let mut l = Lent { row: [0; 514], place: [0; 2], serials: [0; 128], templates: [0; 128], labels: [0; 128], tags: [0; 4096] };
-        let mut verdict = [0; 5];
-        unsafe {
-            monitor_start(
-                plan.as_ptr(), plan.len(), policy.as_ptr(), policy.len(), verdict.as_mut_ptr(), l.row.as_mut_ptr(),
-                l.place.as_mut_ptr(), l.serials.as_mut_ptr(), l.templates.as_mut_ptr(), l.labels.as_mut_ptr(),
-                l.tags.as_mut_ptr(),
-            )
+pub fn run(m: &mut Monitor, calls: &[u32], answers: &mut [u8]) {
+    let played = m.run_into(calls, answers);
+    assert_eq!(played, answers.len());
+}
+
+/// The same calls one by one, as a program that embeds the monitor makes them: the plan's row is read at each.
+pub fn one_by_one(m: &mut Monitor, calls: &[u32], answers: &mut [u8]) {
+    for (call, place) in calls.chunks_exact(3).zip(answers) {
+        let answer = match call[0] {
+            0 => m.step(call[1], call[2]),
+            1 => m.send(call[1], call[2]),
+            2 => m.raise(call[1], call[2]),
+            _ => m.lower(call[1], call[2]),
         };
-        assert_eq!(verdict, [0; 5], "the plan of the runs is accepted");
-        l
-    }
-
-    fn by(&mut self, run: Run, calls: &[u32], answers: &mut [u8]) {
-        let played = unsafe {
-            run(
-                self.row.as_ptr(), self.place.as_mut_ptr(), self.serials.as_mut_ptr(), self.templates.as_mut_ptr(),
-                self.labels.as_mut_ptr(), self.tags.as_mut_ptr(), calls.as_ptr(), calls.len(), answers.as_mut_ptr(),
-                answers.len(),
-            )
-        };
-        assert_eq!(played, answers.len());
-    }
-
-    pub fn run(&mut self, calls: &[u32], answers: &mut [u8]) {
-        self.by(monitor_run, calls, answers)
-    }
-
-    /// Through the operations by value.
-    pub fn run_values(&mut self, calls: &[u32], answers: &mut [u8]) {
-        self.by(monitor_run_values, calls, answers)
+        *place = answer.code();
     }
 }

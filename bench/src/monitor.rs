@@ -1,9 +1,9 @@
-//! The monitor's calls: the library's core and its operations by value beside the baselines.
+//! The calls: the library's core, its single calls and its operations by value beside the baselines.
 
 use crate::calls::{draft, list, List};
 use crate::clock::{medians, timed, Variant};
-use crate::library::Lent;
-use crate::{borrowed, thin, tuned, value};
+use crate::{borrowed, library, thin, tuned, value};
+use monitor::Monitor;
 
 /// A sum of all answers and of the whole state at the end: next, live, and each process with its tags.
 fn checksum(answers: &[u8], next: u32, live: usize, process: impl Fn(usize) -> Vec<u32>) -> u64 {
@@ -12,10 +12,10 @@ fn checksum(answers: &[u8], next: u32, live: usize, process: impl Fn(usize) -> V
     (0..live).flat_map(process).fold(fold(fold(sum, next), live as u32), fold)
 }
 
-fn of_lent(l: &Lent, answers: &[u8]) -> u64 {
-    let m = l.row[1] as usize;
-    let process = |p: usize| [&[l.serials[p], l.templates[p] as u32, l.labels[p]], &l.tags[m * p..m * p + m]].concat();
-    checksum(answers, l.place[0], l.place[1] as usize, process)
+fn of_memory(s: &Monitor, answers: &[u8]) -> u64 {
+    let m = s.row[1] as usize;
+    let process = |p: usize| [&[s.serials[p], s.templates[p] as u32, s.labels[p]], &s.tags[m * p..m * p + m]].concat();
+    checksum(answers, s.place[0], s.place[1] as usize, process)
 }
 
 fn of_tuned(s: &tuned::State, answers: &[u8]) -> u64 {
@@ -53,33 +53,35 @@ fn kept<'a, S: 'a>(run: impl Fn(&mut S, &[u32], &mut [u8]) + 'a) -> impl Fn(Box<
 }
 
 /// Where the states stand after the setup.
-fn ready(l: &List) -> (Box<Lent>, Box<borrowed::State>, Box<tuned::State>) {
+fn ready(l: &List) -> (Box<Monitor>, Box<borrowed::State>, Box<tuned::State>) {
     let d = draft(l.plan.m);
     let mut answers = vec![0; l.setup.len() / 3];
-    let mut lent = Box::new(Lent::start(&d.plan_text(), &d.policy_text()));
-    lent.run(&l.setup, &mut answers);
+    let (verdict, mut memory) = Monitor::start(&d.plan_text(), &d.policy_text());
+    assert_eq!(verdict, monitor::Verdict::Accepted);
+    library::run(&mut memory, &l.setup, &mut answers);
     let (mut natural, mut rows) = (Box::new(borrowed::start(l.plan)), Box::new(tuned::start(l.plan)));
     borrowed::run(&mut natural, &l.setup, &mut answers);
     tuned::run(&mut rows, &l.setup, &mut answers);
-    (lent, natural, rows)
+    (memory, natural, rows)
 }
 
-/// Medians of: core, (b), (c).
+/// Medians of: core, (b), (c), and the library's single calls.
 fn cores(turns: usize, l: &List) -> Vec<f64> {
-    let (lent, natural, rows) = ready(l);
+    let (memory, natural, rows) = ready(l);
     medians(turns, vec![
-        variant(lent, &l.calls, kept(Lent::run), |s, a| of_lent(s, a)),
+        variant(memory.clone(), &l.calls, kept(library::run), |s, a| of_memory(s, a)),
         variant(natural, &l.calls, kept(borrowed::run), |s, a| of_natural(s, a)),
         variant(rows, &l.calls, kept(tuned::run), |s, a| of_tuned(s, a)),
+        variant(memory, &l.calls, kept(library::one_by_one), |s, a| of_memory(s, a)),
     ])
 }
 
-/// Medians of: the operations by value, (a) by value throughout, (a) with what is below borrowing. A tenth of the calls.
+/// Medians of: the operations by value, (a) by value throughout, (a') with what is below borrowing. A tenth of the calls.
 fn values(turns: usize, l: &List) -> Vec<f64> {
-    let (lent, natural, _) = ready(l);
+    let (memory, natural, _) = ready(l);
     let calls = &l.calls[..l.calls.len() / 30 * 3];
     medians(turns, vec![
-        variant(lent, calls, kept(Lent::run_values), |s, a| of_lent(s, a)),
+        variant(memory, calls, kept(library::run_values), |s, a| of_memory(s, a)),
         variant((*natural).clone(), calls, value::run, of_natural),
         variant(*natural, calls, thin::run, of_natural),
     ])
@@ -88,15 +90,15 @@ fn values(turns: usize, l: &List) -> Vec<f64> {
 fn row(turns: usize, l: &List) {
     let (c, v) = (cores(turns, l), values(turns, l));
     println!(
-        "| {} | {} | {} | {:.0} | {:.0} | {:.0} | {:.2} | {:.2} | {:.0} | {:.0} | {:.0} | {:.2} | {:.2} |",
-        l.name, l.plan.m, l.live, c[0], c[1], c[2], c[0] / c[1], c[0] / c[2], v[0], v[1], v[2], v[0] / v[1], v[0] / v[2]
+        "| {} | {} | {} | {:.0} | {:.0} | {:.0} | {:.2} | {:.2} | {:.0} | {:.0} | {:.0} | {:.0} | {:.2} | {:.2} |",
+        l.name, l.plan.m, l.live, c[0], c[1], c[2], c[0] / c[1], c[0] / c[2], c[3], v[0], v[1], v[2], v[0] / v[1], v[0] / v[2]
     );
 }
 
 /// The table; `calls` of one kind, `mixed` calls in a mixed list.
 pub fn table(turns: usize, calls: usize, mixed: usize) {
-    println!("| calls | M | live | core | (b) | (c) | core/(b) | core/(c) | by value | (a) | (a') | by value/(a) | by value/(a') |");
-    println!("|---|---|---|---|---|---|---|---|---|---|---|---|---|");
+    println!("| calls | M | live | core | (b) | (c) | core/(b) | core/(c) | singly | by value | (a) | (a') | /(a) | /(a') |");
+    println!("|{}", "---|".repeat(14));
     for name in ["step", "send", "raise"] {
         for m in [1, 8, 32] {
             [2, 16, 127].iter().for_each(|&live| row(turns, &list(name, m, live, calls)));
