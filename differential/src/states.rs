@@ -1,7 +1,7 @@
 //! Hand-made states: good ones, bad ones in each way of 20, and plan rows that mean no plan.
 
 use crate::library;
-use crate::lists::{as_run, singly, SINGLE};
+use crate::lists::{as_run, singly, RUNS, SINGLE};
 use crate::tally::{same, with_input, Checked, Tally};
 use monitor::Monitor;
 use reference::generate::any_call;
@@ -90,9 +90,12 @@ fn all_refused(r: &mut Rng, tally: &mut Tally, memory: &Monitor, list: &[Call]) 
         same("every word is as before", now == *memory, true)?;
         tally.add(SINGLE, "refused 20", 1);
     }
-    let mut answers = vec![99; list.len()];
-    let played = now.run_into(&library::words(r, list), &mut answers);
-    same("calls played by run", played, list.len())?;
-    same("answers of run", answers, vec![20; list.len()])?;
-    same("every word is as before the run", now == *memory, true)
+    for (what, run) in RUNS {
+        let mut answers = vec![99; list.len()];
+        let played = run(&mut now, &library::words(r, list), &mut answers);
+        same(&format!("calls played by {what}"), played, list.len())?;
+        same(&format!("answers of {what}"), answers, vec![20; list.len()])?;
+        same(&format!("every word is as before the {what}"), now == *memory, true)?;
+    }
+    Ok(())
 }
