@@ -18,9 +18,18 @@ pub enum Text {
 pub enum Verdict {
     Accepted,
     /// The first broken rule, 11 to 19, with its figures.
-    Broken { rule: u32, first: u32, second: u32, identifier: u32 },
+    Broken {
+        rule: u32,
+        first: u32,
+        second: u32,
+        identifier: u32,
+    },
     /// A text that does not read: the refusal's number, 1 to 6, and the line, from 1; 0 for a text that is too long.
-    Unread { text: Text, number: u32, line: u32 },
+    Unread {
+        text: Text,
+        number: u32,
+        line: u32,
+    },
 }
 
 impl Verdict {
@@ -29,8 +38,17 @@ impl Verdict {
         let [kind, a, b, c, d] = words;
         match kind {
             0 => Verdict::Accepted,
-            1 => Verdict::Broken { rule: a, first: b, second: c, identifier: d },
-            _ => Verdict::Unread { text: text_of(a as usize), number: b, line: c },
+            1 => Verdict::Broken {
+                rule: a,
+                first: b,
+                second: c,
+                identifier: d,
+            },
+            _ => Verdict::Unread {
+                text: text_of(a as usize),
+                number: b,
+                line: c,
+            },
         }
     }
 }
@@ -114,7 +132,15 @@ pub fn words_of(calls: &[Call]) -> Vec<u32> {
 pub fn judge(plan: &[u8], policy: &[u8]) -> Verdict {
     let mut words = [0; 5];
     // SAFETY: the texts are lent for the call, and `words` is apart from them.
-    unsafe { sys::monitor_judge(plan.as_ptr(), plan.len(), policy.as_ptr(), policy.len(), &mut words) };
+    unsafe {
+        sys::monitor_judge(
+            plan.as_ptr(),
+            plan.len(),
+            policy.as_ptr(),
+            policy.len(),
+            &mut words,
+        )
+    };
     Verdict::from_words(words)
 }
 
@@ -122,13 +148,30 @@ pub fn judge(plan: &[u8], policy: &[u8]) -> Verdict {
 pub fn locate(plan: &[u8], policy: &[u8]) -> Part {
     let mut words = [0; 3];
     // SAFETY: as in `judge`.
-    unsafe { sys::monitor_locate(plan.as_ptr(), plan.len(), policy.as_ptr(), policy.len(), &mut words) };
-    Part { text: text_of(words[0]), start: words[1], end: words[2] }
+    unsafe {
+        sys::monitor_locate(
+            plan.as_ptr(),
+            plan.len(),
+            policy.as_ptr(),
+            policy.len(),
+            &mut words,
+        )
+    };
+    Part {
+        text: text_of(words[0]),
+        start: words[1],
+        end: words[2],
+    }
 }
 
 /// Judges the two texts, starts the box and runs the words of calls through it, three to a call. The answers go to the
 /// row, as many as it has places for; the number of calls played is handed back, 0 where the verdict is not accepted.
-pub fn replay_into(plan: &[u8], policy: &[u8], calls: &[u32], answers: &mut [u8]) -> (Verdict, usize) {
+pub fn replay_into(
+    plan: &[u8],
+    policy: &[u8],
+    calls: &[u32],
+    answers: &mut [u8],
+) -> (Verdict, usize) {
     let mut words = [0; 5];
     // SAFETY: as in `judge`; `answers` is lent alone, and no more than its length is written.
     let played = unsafe {
@@ -151,7 +194,13 @@ pub fn replay_into(plan: &[u8], policy: &[u8], calls: &[u32], answers: &mut [u8]
 pub fn replay(plan: &[u8], policy: &[u8], calls: &[Call]) -> (Verdict, Vec<Answer>) {
     let mut codes = vec![0; calls.len()];
     let (verdict, played) = replay_into(plan, policy, &words_of(calls), &mut codes);
-    (verdict, codes[..played].iter().map(|&code| Answer::from_code(code)).collect())
+    (
+        verdict,
+        codes[..played]
+            .iter()
+            .map(|&code| Answer::from_code(code))
+            .collect(),
+    )
 }
 
 /// A box: the plan as a row of words, and the memory of its live processes (include/monitor.h has the layout).
@@ -316,7 +365,10 @@ impl Monitor {
     pub fn run(&mut self, calls: &[Call]) -> Vec<Answer> {
         let mut codes = vec![0; calls.len()];
         let played = self.run_into(&words_of(calls), &mut codes);
-        codes[..played].iter().map(|&code| Answer::from_code(code)).collect()
+        codes[..played]
+            .iter()
+            .map(|&code| Answer::from_code(code))
+            .collect()
     }
 
     /// The serials that live, rising; as many as the arrays have places for.

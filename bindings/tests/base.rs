@@ -6,11 +6,26 @@ const POLICY: &[u8] = include_bytes!("../../examples/base/policy.txt");
 const POLICY_B: &[u8] = include_bytes!("../../examples/b/policy.txt");
 
 const RUN: [Call; 5] = [
-    Call::Step { serial: 0, branch: 0 },
-    Call::Step { serial: 1, branch: 0 },
-    Call::Step { serial: 2, branch: 0 },
-    Call::Step { serial: 3, branch: 0 },
-    Call::Step { serial: 5, branch: 0 },
+    Call::Step {
+        serial: 0,
+        branch: 0,
+    },
+    Call::Step {
+        serial: 1,
+        branch: 0,
+    },
+    Call::Step {
+        serial: 2,
+        branch: 0,
+    },
+    Call::Step {
+        serial: 3,
+        branch: 0,
+    },
+    Call::Step {
+        serial: 5,
+        branch: 0,
+    },
 ];
 
 fn after_the_run() -> Box<Monitor> {
@@ -23,19 +38,55 @@ fn after_the_run() -> Box<Monitor> {
 #[test]
 fn verdicts() {
     assert_eq!(judge(PLAN, POLICY), Verdict::Accepted);
-    assert_eq!(judge(PLAN, POLICY_B), Verdict::Broken { rule: 17, first: 0, second: 3, identifier: 255 });
-    assert_eq!(judge(b"", b""), Verdict::Unread { text: Text::Plan, number: 2, line: 1 });
-    assert_eq!(judge(PLAN, b"assertions=33\n"), Verdict::Unread { text: Text::Policy, number: 3, line: 1 });
+    assert_eq!(
+        judge(PLAN, POLICY_B),
+        Verdict::Broken {
+            rule: 17,
+            first: 0,
+            second: 3,
+            identifier: 255
+        }
+    );
+    assert_eq!(
+        judge(b"", b""),
+        Verdict::Unread {
+            text: Text::Plan,
+            number: 2,
+            line: 1
+        }
+    );
+    assert_eq!(
+        judge(PLAN, b"assertions=33\n"),
+        Verdict::Unread {
+            text: Text::Policy,
+            number: 3,
+            line: 1
+        }
+    );
 }
 
 #[test]
 fn parts() {
-    assert_eq!(locate(PLAN, POLICY), Part { text: Text::Plan, start: 0, end: 0 });
+    assert_eq!(
+        locate(PLAN, POLICY),
+        Part {
+            text: Text::Plan,
+            start: 0,
+            end: 0
+        }
+    );
     let part = locate(PLAN, POLICY_B);
     assert_eq!(part.text, Text::Policy);
     assert_eq!(&POLICY_B[part.start..part.end], b"kind=secrecy");
     let long = vec![b'x'; 20_000];
-    assert_eq!(locate(&long, POLICY), Part { text: Text::Plan, start: 20_000, end: 20_000 });
+    assert_eq!(
+        locate(&long, POLICY),
+        Part {
+            text: Text::Plan,
+            start: 20_000,
+            end: 20_000
+        }
+    );
 }
 
 #[test]
@@ -77,7 +128,15 @@ fn rows_that_mean_no_plan() {
 #[test]
 fn not_accepted() {
     let (verdict, mut m) = Monitor::start(PLAN, POLICY_B);
-    assert_eq!(verdict, Verdict::Broken { rule: 17, first: 0, second: 3, identifier: 255 });
+    assert_eq!(
+        verdict,
+        Verdict::Broken {
+            rule: 17,
+            first: 0,
+            second: 3,
+            identifier: 255
+        }
+    );
     assert_eq!(m, Monitor::blank());
     assert_eq!(m.step(0, 0), Answer::Refused(20));
     let (again, answers) = replay(PLAN, POLICY_B, &RUN);
@@ -91,12 +150,21 @@ fn lists() {
     calls.extend([
         Call::Send { from: 4, to: 7 },
         Call::Send { from: 6, to: 4 },
-        Call::Raise { serial: 4, identifier: 0 },
-        Call::Lower { serial: 6, identifier: 0 },
+        Call::Raise {
+            serial: 4,
+            identifier: 0,
+        },
+        Call::Lower {
+            serial: 6,
+            identifier: 0,
+        },
     ]);
     let (verdict, answers) = replay(PLAN, POLICY, &calls);
     assert_eq!(verdict, Verdict::Accepted);
-    assert_eq!(answers.iter().map(|a| a.code()).collect::<Vec<u8>>(), [0, 0, 0, 0, 0, 2, 1, 29, 28]);
+    assert_eq!(
+        answers.iter().map(|a| a.code()).collect::<Vec<u8>>(),
+        [0, 0, 0, 0, 0, 2, 1, 29, 28]
+    );
     let mut m = Monitor::start(PLAN, POLICY).1;
     let mut codes = [0xEE; 4];
     assert_eq!(m.run_into(&monitor::words_of(&calls), &mut codes[..3]), 3);
@@ -107,7 +175,17 @@ fn lists() {
 #[test]
 fn by_value() {
     let mut calls = RUN.to_vec();
-    calls.extend([Call::Send { from: 6, to: 4 }, Call::Step { serial: 4, branch: 0 }, Call::Step { serial: 4, branch: 0 }]);
+    calls.extend([
+        Call::Send { from: 6, to: 4 },
+        Call::Step {
+            serial: 4,
+            branch: 0,
+        },
+        Call::Step {
+            serial: 4,
+            branch: 0,
+        },
+    ]);
     let words = monitor::words_of(&calls);
     let (_, mut lent) = Monitor::start(PLAN, POLICY);
     let mut valued = lent.clone();
