@@ -16,7 +16,7 @@ use Rattle.machine.specs.declared.State.{State}
 use Rattle.machine.specs.State.{Cells, processesOf, machineFrom, machineOf, cellsOf, ifRefused}
 use Rattle.population.specs.Lent.{outcomeFrom, Same, Did}
 use Rattle.population.proofs.Fits.{length-processes}
-use Rattle.population.proofs.Loops.{filled-more}
+use Rattle.lists.proofs.Tabulate.{filled-more}
 use Rattle.promise.specs.Replay.{callsIn, codeOf}
 use Rattle.playback.specs.Playback.{Played}
 use Rattle.planrow.specs.declared.RowRead.{RowRead}
