@@ -38,7 +38,12 @@ same-length-2 : tie.Need-same-length-2
 same-length-2 c = search needs
 
 returns-2 : tie.Need-returns-2
-returns-2 c = search runs-some
+returns-2 c =
+    let at-run = c .before .before .before .before .before in
+    let at-wide = at-run .before .before .before .before .before .before in
+    let at-if = at-wide .before .before .before .before in
+    runs-some _ _ (at-if .before .before .read-row .ensures) (at-if .if1 .left) _ _ _ _ _ _ _ _ _ _ _ _ (c .store .ensures) (at-wide .wide .ensures .0)
+    (c .before .narrow .ensures) (at-run .run-calls .ensures .0) (at-run .run-calls .ensures .1)
 
 pub monitor-run-spec : {M : Type 1} → statement M
 monitor-run-spec =
