@@ -9,8 +9,8 @@
  * Each function is proved to do what is said here whatever the memory holds (crates/embed): it reads and writes
  * nothing else, it ends, and no value of any word makes it go wrong.
  *
- * Stack, as measured on x86-64 (it is not part of what is proved): judge, locate, start and replay need about 160 KB on a
- * plan of 64 templates in one long chain, run_values 70 KB, each other call 10 KB.
+ * Stack, as measured on x86-64 with a plan of 64 templates in one long chain (it is not part of what is proved): judge
+ * and locate need about 15 KB, start and replay 60 KB, run_values 70 KB, each other call 10 KB.
  */
 #ifndef MONITOR_H
 #define MONITOR_H
