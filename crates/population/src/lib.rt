@@ -90,23 +90,28 @@ fn is_rising(xs: &[u32], n: usize) -> bool
     fits
 }
 
-// What stands at a place, and 0 past the end.
-fn word_at(xs: &[u32], i: usize) -> u32
-    ensures { λ r. ⌜ r ≡ getD (now (xs .entry)) i 0 ⌝ }
+// The lesser of two numbers.
+fn least(a: usize, b: usize) -> usize
+    ensures { λ r. ⌜ (r ≡ min a b) × (r ≤ a) × (r ≤ b) ⌝ }
 {
-    if i < xs.len() { xs[i] } else { 0 }
+    if a < b { a } else { b }
 }
 
 // The place of a serial among the first n, and n where none has it.
 pub fn place_of(serials: &[u32], n: usize, serial: u32) -> usize
     ensures { λ r. ⌜ r ≡ lowest n (λ i. eqb (getD (now (serials .entry)) i 0) serial) ⌝ }
 {
+    let end = least(n, serials.len());
     let mut i: usize = 0;
-    while i < n {
-        if word_at(serials, i) == serial {
+    while i < end {
+        if serials[i] == serial {
             return i;
         }
         i += 1;
+    }
+    // Past the end stands 0.
+    if serial == 0 {
+        return end;
     }
     n
 }
@@ -253,13 +258,6 @@ pub fn is_well_formed<'a>(
         labels,
         tags,
     )
-}
-
-// The lesser of two numbers.
-fn least(a: usize, b: usize) -> usize
-    ensures { λ r. ⌜ (r ≡ min a b) × (r ≤ a) × (r ≤ b) ⌝ }
-{
-    if a < b { a } else { b }
 }
 
 // How many are left of n without the last `by`.
