@@ -69,7 +69,7 @@ planFits plan =
     (ltb 0 (plan .count) && (leb (plan .count) 64 && leb (plan .identifiers) 32))
     && every (plan .count) (λ X. templateFits (plan .count) (plan .identifiers) (at plan X))
 
--- "Serials [..] not below the next", "a template [..] not below N", "a mask of a label [..] beyond M", "a tag not below".
+-- "A template [..] not below N, serials [..] not below the next, a tag not below the next, a mask of a label [..] beyond M."
 unfoldable pub processFits : Plan → ℕ → Process → Bool
 processFits plan next p =
     ltb (p .serial) next && (ltb (p .template) (plan .count)

@@ -39,7 +39,7 @@ lowestOffender plan rule first second offends =
     let i = lowest (plan .identifiers) offends in
     cond (ltb i (plan .identifiers)) (broken rule first second i) Accepted
 
--- 11: "lowest identifier; its two lowest templates".
+-- 11: "an identifier is created by two templates (lowest identifier; its two lowest templates)".
 unfoldable pub creator : Plan → ℕ → ℕ
 creator plan t = lowest (plan .count) (creates plan t)
 
@@ -97,7 +97,7 @@ serves plan a t =
     && (every (plan .count) (λ X. has X (a .declass) || not (has t (at plan X .neg)))
     && (not (wearable plan (a .sink) t) || not (sharesTag plan t (a .source) (a .sink) (a .anc))))
 
--- 18 and 19 of a prot, at identifier t.
+-- "For prot, identifiers of lab Source rising: 18 if not in lab Sink, else 19 if Parted": at identifier t.
 unfoldable pub checkProt : Plan → ℕ → Assertion → ℕ → Verdict
 checkProt plan place a t =
     cond (has t (at plan (a .source) .lab))
