@@ -1,2 +1,4 @@
 pub mod Sending
 pub mod Places
+pub mod Templates
+pub mod Alike

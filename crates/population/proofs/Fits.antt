@@ -21,6 +21,7 @@ use Rattle.plan.specs.Listed.{listFor}
 use Rattle.machine.specs.Machine.{boxLimits, templateFits, planFits, processFits, rising, populationFits, wellFormed}
 use Rattle.machine.specs.State.{Cells, placed, processesOf, machineFrom}
 use Rattle.machine.proofs.Places.{rising-places}
+use Rattle.machine.proofs.Templates.{successors-fit}
 use Rattle.population.specs.Arrays.{cells, arraysFit}
 
 -- ---- a template's successors
@@ -200,11 +201,7 @@ module _ (plan : Plan) (next live : ℕ) (c : Cells) (e : wellFormed boxLimits (
       (and-right (leb live 128) _ (sym (population-arrays plan next live c) ∙ formed-population))))) k h)
 
   pub formed-successors : (X : ℕ) → X < plan .count → all (λ Y. ltb Y (plan .count)) (successors (at plan X .form)) ≡ true
-  unfolding planFits templateFits
-  formed-successors X h =
-      and-left (all (λ Y. ltb Y (plan .count)) (successors (at plan X .form))) _
-      (every-at (plan .count) (λ X. templateFits (plan .count) (plan .identifiers) (at plan X))
-      (and-right (ltb 0 (plan .count) && (leb (plan .count) 64 && leb (plan .identifiers) 32)) _ formed-plan) X h)
+  formed-successors = successors-fit plan formed-plan
 
   pub formed-rising : rising (map (λ p. p .serial) (processesOf (plan .identifiers) live c)) ≡ true
   unfolding populationFits

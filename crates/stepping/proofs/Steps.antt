@@ -1,7 +1,7 @@
 -- The whole step: the parts are the machine's.
 use Prim.Native.Nat.{ℕ, zero, suc, _+_, _-_, _*_, _≤_, _<_}
 use mathlib.Core.Path.{_≡_, refl, sym, ap, ap₂, _∙_, subst}
-use mathlib.Core.Bool.{Bool, true, false, not, _&&_, and-true, cond}
+use mathlib.Core.Bool.{Bool, true, false, not, _&&_, and-true}
 use mathlib.Core.List.{List, [], _∷_, _++_}
 use mathlib.Core.Option.{some}
 use native.Mathlib.Numerals.{add-one}
@@ -17,14 +17,14 @@ use Rattle.plan.specs.declared.Form.{Form}
 use Rattle.plan.specs.declared.Plan.{Plan}
 use Rattle.plan.specs.declared.Template.{Template}
 use Rattle.plan.specs.declared.Successors.{Successors}
-use Rattle.plan.specs.declared.Form.the-variants.{End, Go, Either, Both}
-use Rattle.plan.specs.Plan.{at, creates, successors}
+use Rattle.plan.specs.Plan.{at, creates}
 use Rattle.plan.specs.Listed.{listFor, listed}
 use Rattle.machine.specs.declared.Answer.{Answer}
 use Rattle.machine.specs.declared.Answer.the-variants.{Done, Refused}
 use Rattle.machine.specs.Machine.{Process, step, boxLimits, wellFormed, tag, remove, refuseIf, branchFits, children, mayBecome, child, spawn, stepAnswer, stepped, stepBy, answerTo, run}
 use Rattle.machine.specs.State.{Cells, placed, processesOf, machineFrom}
 use Rattle.machine.proofs.Places.{remove-at}
+use Rattle.machine.proofs.Templates.{children-fit}
 use Rattle.population.specs.Arrays.{childTag}
 use Rattle.machine.specs.State.{ifRefused}
 use Rattle.population.specs.Lent.{Same, Did, answerFor}
@@ -182,17 +182,6 @@ all-next : (n : ℕ) (ys : List ℕ) → 0 < n → all (λ Y. ltb Y n) ys ≡ tr
 unfolding all
 all-next n [] h e = h
 all-next n (y ∷ ys) h e = all-head n ys h (and-right (ltb y n) _ e)
-
-either-fits : (n Y Z : ℕ) (b : Bool) → (ltb Y n && (ltb Z n && true)) ≡ true → (ltb (cond b Y Z) n && true) ≡ true
-either-fits n Y Z true e = and-true (ltb Y n) ∙ and-left (ltb Y n) _ e
-either-fits n Y Z false e = and-right (ltb Y n) _ e
-
-children-fit : (n branch : ℕ) (form : Form) → all (λ Y. ltb Y n) (successors form) ≡ true → all (λ Y. ltb Y n) (children form branch) ≡ true
-unfolding all successors children
-children-fit n branch End e = refl
-children-fit n branch (Go Y) e = e
-children-fit n branch (Either Y Z) e = either-fits n Y Z (eqb branch 0) e
-children-fit n branch (Both Y Z) e = e
 
 -- What the state gives where the arrays are reached into.
 module _ (plan : Plan) (next live : ℕ) (c : Cells) (k : ℕ) (well : wellFormed boxLimits (machineFrom plan next live c) ≡ true) (h : k < live) where
