@@ -1,6 +1,6 @@
 -- The ways out of a send, as the code meets them.
 use Prim.Native.Nat.{ℕ, _+_, _*_, _≤_, _<_}
-use mathlib.Core.Path.{_≡_, sym, ap₂, _∙_}
+use mathlib.Core.Path.{_≡_, sym, ap, ap₂, _∙_}
 use mathlib.Core.Bool.{Bool, true, false, not, _&&_, _||_, cond}
 use mathlib.Core.List.{List}
 use lib.Dec.{eqb}
@@ -11,11 +11,13 @@ use Rattle.lists.proofs.Every.{every-ext}
 use Rattle.lists.proofs.Tabulate.{getD-tabulate}
 use Rattle.mask.specs.Mask.{has}
 use Rattle.plan.specs.declared.Plan.{Plan}
+use Rattle.planrow.specs.Lookup.{planFor}
 use Rattle.machine.specs.declared.Answer.the-variants.{Delivered, Held, Refused}
 use Rattle.machine.specs.Machine.{send, boxLimits, wellFormed, tag, passes, refuseIf, settled, ifDone, sendBy, answerTo, run}
 use Rattle.machine.specs.State.{Cells, placed, machineFrom}
 use Rattle.population.specs.Lent.{outcomeFrom}
 use Rattle.population.proofs.Fits.{gathered-more}
+use Rattle.population.proofs.RowFits.{row-identifiers}
 use Rattle.population.proofs.Lent.{run-bad, run-formed, found-none, found-some}
 use Rattle.delivery.specs.Delivery.{agrees}
 
@@ -50,45 +52,51 @@ module _ (plan : Plan) (c : Cells) (a b : ℕ) where
       (λ i. agrees (getD (c .labels) a 0) (getD (c .labels) b 0) (row a i) (row b i) i)
       (λ i h. ap₂ (λ (t u : ℕ). agrees (getD (c .labels) a 0) (getD (c .labels) b 0) t u i) (getD-tabulate M (row a) i 0 h) (getD-tabulate M (row b) i 0 h))
 
-module _ (plan : Plan) (next live : ℕ) (c : Cells) (from to : ℕ) (g : Bool) (eg : g ≡ wellFormed boxLimits (machineFrom plan next live c)) where
-  pub sent-bad : not g ≡ true → outcomeFrom (Refused 20) plan next live c ≡ run boxLimits (machineFrom plan next live c) (send from to)
-  sent-bad h = sym (run-bad plan next live c g eg (send from to) h)
+module _ (row : List ℕ) (next live : ℕ) (c : Cells) (from to : ℕ) (g : Bool) (eg : g ≡ wellFormed boxLimits (machineFrom (planFor row) next live c)) where
+  pub sent-bad : not g ≡ true → outcomeFrom (Refused 20) (planFor row) next live c ≡ run boxLimits (machineFrom (planFor row) next live c) (send from to)
+  sent-bad h = sym (run-bad (planFor row) next live c g eg (send from to) h)
 
   module _ (h : not g ≡ false) (a : ℕ) (ea : a ≡ lowest live (λ i. eqb (getD (c .serials) i 0) from)) where
-    pub sent-from-none : live ≤ a → outcomeFrom (Refused 21) plan next live c ≡ run boxLimits (machineFrom plan next live c) (send from to)
+    pub sent-from-none : live ≤ a → outcomeFrom (Refused 21) (planFor row) next live c ≡ run boxLimits (machineFrom (planFor row) next live c) (send from to)
     unfolding answerTo sendBy settled ifDone machineFrom
     sent-from-none l =
-        sym (run-formed plan next live c g eg (send from to) h
-        ∙ rw (found-none (plan .identifiers) live c from a ea l))
+        sym (run-formed (planFor row) next live c g eg (send from to) h
+        ∙ rw (found-none (planFor row .identifiers) live c from a ea l))
 
     module _ (la : a < live) (b : ℕ) (eb : b ≡ lowest live (λ i. eqb (getD (c .serials) i 0) to)) where
-      pub sent-to-none : live ≤ b → outcomeFrom (Refused 21) plan next live c ≡ run boxLimits (machineFrom plan next live c) (send from to)
+      pub sent-to-none : live ≤ b → outcomeFrom (Refused 21) (planFor row) next live c ≡ run boxLimits (machineFrom (planFor row) next live c) (send from to)
       unfolding answerTo sendBy settled ifDone machineFrom
       sent-to-none l =
-          sym (run-formed plan next live c g eg (send from to) h
-          ∙ rw (found-some (plan .identifiers) live c from a ea la, found-none (plan .identifiers) live c to b eb l))
+          sym (run-formed (planFor row) next live c g eg (send from to) h
+          ∙ rw (found-some (planFor row .identifiers) live c from a ea la, found-none (planFor row .identifiers) live c to b eb l))
 
       module _ (lb : b < live) where
-        pub sent-itself : from ≡ to → outcomeFrom (Refused 26) plan next live c ≡ run boxLimits (machineFrom plan next live c) (send from to)
+        pub sent-itself : from ≡ to → outcomeFrom (Refused 26) (planFor row) next live c ≡ run boxLimits (machineFrom (planFor row) next live c) (send from to)
         unfolding answerTo sendBy settled ifDone machineFrom refuseIf
         sent-itself e =
-            sym (run-formed plan next live c g eg (send from to) h
-            ∙ rw (found-some (plan .identifiers) live c from a ea la, found-some (plan .identifiers) live c to b eb lb, eq-eqb from to e))
+            sym (run-formed (planFor row) next live c g eg (send from to) h
+            ∙ rw (found-some (planFor row .identifiers) live c from a ea la, found-some (planFor row .identifiers) live c to b eb lb, eq-eqb from to e))
 
-        sent-passes : (from ≡ to → ⊥) → run boxLimits (machineFrom plan next live c) (send from to)
-            ≡ settled (machineFrom plan next live c) (cond (passes plan (placed (plan .identifiers) c a) (placed (plan .identifiers) c b)) Delivered Held) (machineFrom plan next live c)
+        sent-passes : (from ≡ to → ⊥) → run boxLimits (machineFrom (planFor row) next live c) (send from to)
+            ≡ settled (machineFrom (planFor row) next live c) (cond (passes (planFor row) (placed (planFor row .identifiers) c a) (placed (planFor row .identifiers) c b)) Delivered Held) (machineFrom (planFor row) next live c)
         unfolding answerTo sendBy machineFrom refuseIf
         sent-passes e =
-            run-formed plan next live c g eg (send from to) h
-            ∙ rw (found-some (plan .identifiers) live c from a ea la, found-some (plan .identifiers) live c to b eb lb, ne-eqb from to e)
+            run-formed (planFor row) next live c g eg (send from to) h
+            ∙ rw (found-some (planFor row .identifiers) live c from a ea la, found-some (planFor row .identifiers) live c to b eb lb, ne-eqb from to e)
 
         module _ (e : from ≡ to → ⊥) (r : Bool)
-            (er : r ≡ every (plan .identifiers) (λ i. agrees (getD (c .labels) a 0) (getD (c .labels) b 0)
-            (getD (c .tags) (a * plan .identifiers + i) 0) (getD (c .tags) (b * plan .identifiers + i) 0) i)) where
-          pub sent-delivered : r ≡ true → outcomeFrom Delivered plan next live c ≡ run boxLimits (machineFrom plan next live c) (send from to)
-          unfolding settled ifDone
-          sent-delivered q = sym (sent-passes e ∙ rw (passes-places plan c a b ∙ sym er ∙ q))
+            (er : r ≡ every (getD row 1 0) (λ i. agrees (getD (c .labels) a 0) (getD (c .labels) b 0)
+            (getD (c .tags) (a * getD row 1 0 + i) 0) (getD (c .tags) (b * getD row 1 0 + i) 0) i)) where
+          passed : passes (planFor row) (placed (planFor row .identifiers) c a) (placed (planFor row .identifiers) c b) ≡ r
+          passed =
+              passes-places (planFor row) c a b
+              ∙ ap (λ (m : ℕ). every m (λ i. agrees (getD (c .labels) a 0) (getD (c .labels) b 0) (getD (c .tags) (a * m + i) 0) (getD (c .tags) (b * m + i) 0) i))
+              (row-identifiers row next live c g eg h) ∙ sym er
 
-          pub sent-held : r ≡ false → outcomeFrom Held plan next live c ≡ run boxLimits (machineFrom plan next live c) (send from to)
+          pub sent-delivered : r ≡ true → outcomeFrom Delivered (planFor row) next live c ≡ run boxLimits (machineFrom (planFor row) next live c) (send from to)
           unfolding settled ifDone
-          sent-held q = sym (sent-passes e ∙ rw (passes-places plan c a b ∙ sym er ∙ q))
+          sent-delivered q = sym (sent-passes e ∙ rw (passed ∙ q))
+
+          pub sent-held : r ≡ false → outcomeFrom Held (planFor row) next live c ≡ run boxLimits (machineFrom (planFor row) next live c) (send from to)
+          unfolding settled ifDone
+          sent-held q = sym (sent-passes e ∙ rw (passed ∙ q))

@@ -1,10 +1,10 @@
-// Document 01, Send, on lent arrays.
+// Document 01, Send, on a lent row and lent arrays.
 use machine::Answer;
-use plan::Plan;
 ghost use mathlib.Core.Path.{_≡_};
 ghost use Prim.Native.Nat.{_<_, _≤_, _+_, _*_};
 ghost use lib.ListN.{getD};
 ghost use Rattle.lists.specs.Numbers.{every};
+ghost use Rattle.planrow.specs.Lookup.{planFor};
 ghost use Rattle.machine.specs.Machine.{boxLimits, send, run};
 ghost use Rattle.machine.specs.State.{machineFrom};
 ghost use Rattle.population.specs.Arrays.{cells};
@@ -43,7 +43,7 @@ fn is_passed(tags: &[u32; 4096], m: u32, a: usize, b: usize, sender: u32, receiv
 
 // Document 01, Send: 20; 21 if either is not live; 26 if equal; else delivered exactly when the labels and tags allow.
 pub fn send<'a>(
-    plan: Plan,
+    row: &'a [u32; 514],
     next: u32,
     live: usize,
     serials: &'a [u32; 128],
@@ -55,9 +55,9 @@ pub fn send<'a>(
 ) -> Answer
     ensures { λ r.
         let c = cells (now (serials .entry)) (now (templates .entry)) (now (labels .entry)) (now (tags .entry)) in
-        ⌜ outcomeFrom r plan next live c ≡ run boxLimits (machineFrom plan next live c) (send from to) ⌝ }
+        ⌜ outcomeFrom r (planFor (now (row .entry))) next live c ≡ run boxLimits (machineFrom (planFor (now (row .entry))) next live c) (send from to) ⌝ }
 {
-    if !population::is_well_formed(plan, next, live, serials, templates, labels, tags) {
+    if !population::is_well_formed(row, next, live, serials, templates, labels, tags) {
         return Answer::Refused(population::BAD_STATE);
     }
     let a = population::place_of(serials, live, from);
@@ -71,7 +71,8 @@ pub fn send<'a>(
     if from == to {
         return Answer::Refused(population::TO_ITSELF);
     }
-    if is_passed(tags, plan.identifiers, a, b, labels[a], labels[b]) {
+    let m = row[1];
+    if is_passed(tags, m, a, b, labels[a], labels[b]) {
         Answer::Delivered
     } else {
         Answer::Held

@@ -7,15 +7,12 @@ use mathlib.Core.Option.{some}
 use native.Mathlib.Omega.{arith}
 use lib.ListN.{length, getD, replicate}
 use Rattle.lists.specs.Numbers.{tabulate}
-use Rattle.plan.specs.declared.Template.{Template}
 use Rattle.plan.specs.declared.Plan.{Plan}
-use Rattle.plan.specs.Plan.{blank, at, successors, Among, Successor}
+use Rattle.plan.specs.Plan.{blank, at}
 use Rattle.text.specs.Reading.{readPlan, noPlan}
-use Rattle.reader.proofs.Range.{plan-in-range}
 use Rattle.rules.specs.declared.Verdict.{Verdict}
 use Rattle.rules.specs.declared.Verdict.the-variants.{Accepted, Broken, Unread}
 use Rattle.rules.specs.Judge.{judge}
-use Rattle.verdict.proofs.Exact.{accepted-exactly}
 use Rattle.machine.specs.declared.State.{State}
 use Rattle.machine.specs.declared.Started.{Started}
 use Rattle.machine.specs.Machine.{Machine, start}
@@ -23,20 +20,17 @@ use Rattle.machine.specs.State.{Cells, processesOf, machineFrom, machineOf, bla
 use Rattle.population.proofs.Fits.{length-processes}
 use Rattle.planrow.specs.Row.{planOfRow, rowOfPlan}
 use Rattle.planrow.proofs.Rows.{blanks}
-use Rattle.planrow.proofs.RoundTrip.{row-means, round-trip}
+use Rattle.planrow.proofs.RoundTrip.{row-means}
+use Rattle.monitor.proofs.Starting.{accepted-means}
 use Rattle.embed.specs.Embed.{Held as Memory, held, machineIn, verdictWords, blankHeld, Starts}
 
 at-blank : (X : ℕ) → at noPlan X ≡ blank
 unfolding at
 at-blank X = blanks 64 X
 
-near : (X Y : ℕ) → Successor noPlan X Y → Y < 64
-unfolding successors
-near X Y s = absurd (subst (λ (t : Template). Among Y (successors (t .form))) (at-blank X) s)
-
 -- The blank plan's row means it too.
 blank-means : planOfRow (rowOfPlan noPlan) ≡ some noPlan
-blank-means = row-means noPlan (omega arith) near (λ X h. at-blank X) refl
+blank-means = row-means noPlan (omega arith) (λ X Y h s. omega arith) (λ X h. at-blank X) refl
 
 module _ (planText policyText : List ℕ) where
   one-at-most : (v : Verdict) → length (startOn v (readPlan planText .plan) .live) ≤ 1
@@ -48,7 +42,7 @@ module _ (planText policyText : List ℕ) where
   started-means : (v : Verdict) → judge planText policyText ≡ v → length (startOn v (readPlan planText .plan) .plan .templates) ≡ 64
       → planOfRow (rowOfPlan (startOn v (readPlan planText .plan) .plan)) ≡ some (startOn v (readPlan planText .plan) .plan)
   unfolding startOn start machineOf machineFrom
-  started-means Accepted e sized = round-trip (readPlan planText .plan) (plan-in-range planText (accepted-exactly planText policyText .0 e .plan-reads)) sized
+  started-means Accepted e sized = accepted-means planText policyText e sized
   started-means (Broken b) e sized = blank-means
   started-means (Unread f) e sized = blank-means
 

@@ -14,9 +14,6 @@ ghost use Rattle.rules.specs.Show.{locate};
 ghost use Rattle.embed.specs.Embed.{textNumber, verdictWords, partWords, held, Starts, Answers, AllRefused, Runs, ReplayedAll};
 ghost use Rattle.embed.specs.Loading.{Loaded};
 
-// Document 01's 20, also of a row that means no plan.
-const BAD_STATE: u32 = 20;
-
 fn wide(x: u32) -> usize
     ensures { λ r. ⌜ (r ≡ x) × (r ≤ 4294967295) ⌝ }
 {
@@ -137,15 +134,10 @@ pub extern "C" fn monitor_step<'a>(
         let k = held (now (place .exit)) (now (serials .exit)) (now (templates .exit)) (now (labels .exit)) (now (tags .exit)) in
         ⌜ Answers (planOfRow (now (row .entry))) (step serial branch) h r k ⌝ }
 {
-    let read = planrow::read_row(row);
-    if !read.known {
-        return BAD_STATE;
-    }
-    let plan = read.plan;
     let next = place[0];
     let live = place[1];
     let stepped = stepping::step(
-        plan,
+        row,
         next,
         wide(live),
         serials,
@@ -176,15 +168,10 @@ pub extern "C" fn monitor_send<'a>(
         let h = held (now (place .entry)) (now (serials .entry)) (now (templates .entry)) (now (labels .entry)) (now (tags .entry)) in
         ⌜ Answers (planOfRow (now (row .entry))) (send from to) h r h ⌝ }
 {
-    let read = planrow::read_row(row);
-    if !read.known {
-        return BAD_STATE;
-    }
-    let plan = read.plan;
     let next = place[0];
     let live = place[1];
     let sent = delivery::send(
-        plan,
+        row,
         next,
         wide(live),
         serials,
@@ -214,15 +201,10 @@ pub extern "C" fn monitor_raise<'a>(
         let k = held (now (place .entry)) (now (serials .entry)) (now (templates .entry)) (now (labels .exit)) (now (tags .entry)) in
         ⌜ Answers (planOfRow (now (row .entry))) (raise serial identifier) h r k ⌝ }
 {
-    let read = planrow::read_row(row);
-    if !read.known {
-        return BAD_STATE;
-    }
-    let plan = read.plan;
     let next = place[0];
     let live = place[1];
     let raised = labelling::raise(
-        plan,
+        row,
         next,
         wide(live),
         serials,
@@ -252,15 +234,10 @@ pub extern "C" fn monitor_lower<'a>(
         let k = held (now (place .entry)) (now (serials .entry)) (now (templates .entry)) (now (labels .exit)) (now (tags .entry)) in
         ⌜ Answers (planOfRow (now (row .entry))) (lower serial identifier) h r k ⌝ }
 {
-    let read = planrow::read_row(row);
-    if !read.known {
-        return BAD_STATE;
-    }
-    let plan = read.plan;
     let next = place[0];
     let live = place[1];
     let lowered = labelling::lower(
-        plan,
+        row,
         next,
         wide(live),
         serials,
@@ -303,15 +280,13 @@ pub extern "C" fn monitor_run<'a>(
         let k = held (now (place .exit)) (now (serials .exit)) (now (templates .exit)) (now (labels .exit)) (now (tags .exit)) in
         ⌜ Runs (planOfRow (now (row .entry))) (now (calls .entry)) h (now (answers .entry)) r k (now (answers .exit)) ⌝ }
 {
-    let read = planrow::read_row(row);
-    if !read.known {
+    if !planrow::is_plan(row) {
         return refuse_all(calls.len(), answers);
     }
-    let plan = read.plan;
     let next = place[0];
     let live = place[1];
     let ran = playback::run_calls(
-        plan,
+        row,
         next,
         wide(live),
         serials,

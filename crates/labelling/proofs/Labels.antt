@@ -1,6 +1,6 @@
 -- The ways out of a raise and of a lower, as the code meets them.
 use Prim.Native.Nat.{ℕ, zero, suc, _+_, _*_, _%_, _^_, _≤_, _<_}
-use mathlib.Core.Path.{_≡_, refl, sym, ap, _∙_}
+use mathlib.Core.Path.{_≡_, refl, sym, ap, ap₂, _∙_}
 use mathlib.Core.Bool.{Bool, true, false, not}
 use mathlib.Core.List.{List}
 use native.Mathlib.Nat.{one-mul, mod-eq-of-lt}
@@ -15,6 +15,7 @@ use Rattle.mask.specs.Mask.{has, plus, without}
 use Rattle.plan.specs.declared.Plan.{Plan}
 use Rattle.plan.specs.declared.Template.{Template}
 use Rattle.plan.specs.Plan.{at}
+use Rattle.planrow.specs.Lookup.{planFor, templateAt}
 use Rattle.machine.specs.declared.Answer.the-variants.{Done, Refused}
 use Rattle.machine.specs.Machine.{Process, Machine, Outcome, Call, raise, lower, boxLimits, wellFormed, refuseIf, relabel, moveAnswer, moved, settled, raiseBy, lowerBy, answerTo, run}
 use Rattle.machine.specs.State.{Cells, placed, processesOf, machineFrom}
@@ -22,7 +23,8 @@ use Rattle.machine.proofs.Places.{relabel-at}
 use Rattle.population.specs.Arrays.{cells}
 use Rattle.machine.specs.State.{ifRefused}
 use Rattle.population.specs.Lent.{Did, answerFor}
-use Rattle.population.proofs.Fits.{formed, few-live, few-identifiers}
+use Rattle.population.proofs.Fits.{formed, few-live}
+use Rattle.population.proofs.RowFits.{row-identifiers, few-words, looked-at}
 use Rattle.population.proofs.Lent.{did-refused, refuse-yes, refuse-no, refuse-done, settled-refused, settled-done, run-bad, run-formed, found-none, found-some, found-serial, alone}
 use Rattle.labelling.specs.Labelling.{refusalOf}
 
@@ -82,94 +84,97 @@ module _ (plan : Plan) (next live : ℕ) (xs ts ls gs : List ℕ) (well : wellFo
 
 -- ---- the call, whichever of the two
 
-module _ (plan : Plan) (next live : ℕ) (xs ts ls gs : List ℕ) (s i : ℕ) (g : Bool) (eg : g ≡ wellFormed boxLimits (machineFrom plan next live (cells xs ts ls gs))) where
+module _ (row : List ℕ) (next live : ℕ) (xs ts ls gs : List ℕ) (s i : ℕ) (g : Bool) (eg : g ≡ wellFormed boxLimits (machineFrom (planFor row) next live (cells xs ts ls gs))) where
   abbrev c : Cells
   c = cells xs ts ls gs
 
   abbrev m : Machine
-  m = machineFrom plan next live c
+  m = machineFrom (planFor row) next live c
 
-  pub call-bad : (call : Call) → not g ≡ true → Did plan next live (cells xs ts ls gs) (Refused 20) next live (cells xs ts ls gs) (run boxLimits (machineFrom plan next live (cells xs ts ls gs)) call)
-  call-bad call h = did-refused plan next live c (Refused 20) 20 _ refl (run-bad plan next live c g eg call h)
+  pub call-bad : (call : Call) → not g ≡ true → Did (planFor row) next live (cells xs ts ls gs) (Refused 20) next live (cells xs ts ls gs) (run boxLimits (machineFrom (planFor row) next live (cells xs ts ls gs)) call)
+  call-bad call h = did-refused (planFor row) next live c (Refused 20) 20 _ refl (run-bad (planFor row) next live c g eg call h)
 
   module _ (h : not g ≡ false) (k : ℕ) (ek : k ≡ lowest live (λ i. eqb (getD xs i 0) s)) where
-    pub raise-gone : live ≤ k → Did plan next live (cells xs ts ls gs) (Refused 21) next live (cells xs ts ls gs) (run boxLimits (machineFrom plan next live (cells xs ts ls gs)) (raise s i))
+    pub raise-gone : live ≤ k → Did (planFor row) next live (cells xs ts ls gs) (Refused 21) next live (cells xs ts ls gs) (run boxLimits (machineFrom (planFor row) next live (cells xs ts ls gs)) (raise s i))
     unfolding answerTo raiseBy machineFrom
     raise-gone l =
-        did-refused plan next live c (Refused 21) 21 _ refl
-        (run-formed plan next live c g eg (raise s i) h
-        ∙ ap (raiseBy m s i) (found-none (plan .identifiers) live c s k ek l) ∙ settled-refused _ _ _ 21 refl)
+        did-refused (planFor row) next live c (Refused 21) 21 _ refl
+        (run-formed (planFor row) next live c g eg (raise s i) h
+        ∙ ap (raiseBy m s i) (found-none (planFor row .identifiers) live c s k ek l) ∙ settled-refused _ _ _ 21 refl)
 
-    pub lower-gone : live ≤ k → Did plan next live (cells xs ts ls gs) (Refused 21) next live (cells xs ts ls gs) (run boxLimits (machineFrom plan next live (cells xs ts ls gs)) (lower s i))
+    pub lower-gone : live ≤ k → Did (planFor row) next live (cells xs ts ls gs) (Refused 21) next live (cells xs ts ls gs) (run boxLimits (machineFrom (planFor row) next live (cells xs ts ls gs)) (lower s i))
     unfolding answerTo lowerBy machineFrom
     lower-gone l =
-        did-refused plan next live c (Refused 21) 21 _ refl
-        (run-formed plan next live c g eg (lower s i) h
-        ∙ ap (lowerBy m s i) (found-none (plan .identifiers) live c s k ek l) ∙ settled-refused _ _ _ 21 refl)
+        did-refused (planFor row) next live c (Refused 21) 21 _ refl
+        (run-formed (planFor row) next live c g eg (lower s i) h
+        ∙ ap (lowerBy m s i) (found-none (planFor row .identifiers) live c s k ek l) ∙ settled-refused _ _ _ 21 refl)
 
-    module _ (l : k < live) (t : Template) (et : t ≡ at plan (getD ts k 0)) where
-      raise-found : run boxLimits m (raise s i) ≡ settled m (refusalOf (plan .identifiers) (t .risk) (t .pos) i) (moved m s (plus (getD ls k 0) i))
+    module _ (l : k < live) (t : Template) (looked : t ≡ templateAt row (getD ts k 0)) where
+      et : t ≡ at (planFor row) (getD ts k 0)
+      et = looked-at row next live c g eg h k l t looked
+
+      raise-found : run boxLimits m (raise s i) ≡ settled m (refusalOf (getD row 1 0) (t .risk) (t .pos) i) (moved m s (plus (getD ls k 0) i))
       unfolding answerTo raiseBy machineFrom moveAnswer refusalOf placed
       raise-found =
-          run-formed plan next live c g eg (raise s i) h
-          ∙ ap (raiseBy m s i) (found-some (plan .identifiers) live c s k ek l)
-          ∙ ap (λ (t : Template). settled m (refusalOf (plan .identifiers) (t .risk) (t .pos) i) (moved m s (plus (getD ls k 0) i))) (sym et)
+          run-formed (planFor row) next live c g eg (raise s i) h
+          ∙ ap (raiseBy m s i) (found-some (planFor row .identifiers) live c s k ek l)
+          ∙ ap₂ (λ (M : ℕ) (t : Template). settled m (refusalOf M (t .risk) (t .pos) i) (moved m s (plus (getD ls k 0) i))) (row-identifiers row next live c g eg h) (sym et)
 
-      lower-found : run boxLimits m (lower s i) ≡ settled m (refusalOf (plan .identifiers) (t .risk) (t .neg) i) (moved m s (without (getD ls k 0) (2 ^ i)))
+      lower-found : run boxLimits m (lower s i) ≡ settled m (refusalOf (getD row 1 0) (t .risk) (t .neg) i) (moved m s (without (getD ls k 0) (2 ^ i)))
       unfolding answerTo lowerBy machineFrom moveAnswer refusalOf placed
       lower-found =
-          run-formed plan next live c g eg (lower s i) h
-          ∙ ap (lowerBy m s i) (found-some (plan .identifiers) live c s k ek l)
-          ∙ ap (λ (t : Template). settled m (refusalOf (plan .identifiers) (t .risk) (t .neg) i) (moved m s (without (getD ls k 0) (2 ^ i)))) (sym et)
+          run-formed (planFor row) next live c g eg (lower s i) h
+          ∙ ap (lowerBy m s i) (found-some (planFor row .identifiers) live c s k ek l)
+          ∙ ap₂ (λ (M : ℕ) (t : Template). settled m (refusalOf M (t .risk) (t .neg) i) (moved m s (without (getD ls k 0) (2 ^ i)))) (row-identifiers row next live c g eg h) (sym et)
 
-      module _ (allowed q : ℕ) (eq : answerFor q ≡ refusalOf (plan .identifiers) (t .risk) allowed i) where
-        call-refused : (o : Outcome) (new : Machine) → o ≡ settled m (refusalOf (plan .identifiers) (t .risk) allowed i) new → (q ≡ 0 → ⊥) → Did plan next live c (Refused q) next live c o
-        call-refused o new eo n = did-refused plan next live c (Refused q) q o refl (eo ∙ settled-refused m new _ q (sym eq ∙ numbered q n))
+      module _ (allowed q : ℕ) (eq : answerFor q ≡ refusalOf (getD row 1 0) (t .risk) allowed i) where
+        call-refused : (o : Outcome) (new : Machine) → o ≡ settled m (refusalOf (getD row 1 0) (t .risk) allowed i) new → (q ≡ 0 → ⊥) → Did (planFor row) next live c (Refused q) next live c o
+        call-refused o new eo n = did-refused (planFor row) next live c (Refused q) q o refl (eo ∙ settled-refused m new _ q (sym eq ∙ numbered q n))
 
-        call-done : (o : Outcome) (label : ℕ) → o ≡ settled m (refusalOf (plan .identifiers) (t .risk) allowed i) (moved m s label) → q ≡ 0
-            → (ls′ : List ℕ) → length ls ≡ 128 → ls′ ≡ set ls k label → Did plan next live c Done next live (cells xs ts ls′ gs) o
+        call-done : (o : Outcome) (label : ℕ) → o ≡ settled m (refusalOf (getD row 1 0) (t .risk) allowed i) (moved m s label) → q ≡ 0
+            → (ls′ : List ℕ) → length ls ≡ 128 → ls′ ≡ set ls k label → Did (planFor row) next live c Done next live (cells xs ts ls′ gs) o
         unfolding moved machineFrom ifRefused
         call-done o label eo z ls′ n el = record {
           means =
-              (λ i. record { answer = Done; machine = record { plan = plan; next = next; live = places i } })
+              (λ i. record { answer = Done; machine = record { plan = planFor row; next = next; live = places i } })
               ∙ sym (eo ∙ settled-done m (moved m s label) _ (sym eq ∙ ap answerFor z));
           same = Prim.tt;
         }
           where
             few : live ≤ 128
-            few = few-live plan next live c g eg h
+            few = few-live (planFor row) next live c g eg h
 
-            places : processesOf (plan .identifiers) live (cells xs ts ls′ gs) ≡ relabel s label (processesOf (plan .identifiers) live c)
+            places : processesOf (planFor row .identifiers) live (cells xs ts ls′ gs) ≡ relabel s label (processesOf (planFor row .identifiers) live c)
             places =
-                sym (ap (λ (s : ℕ). relabel s label (processesOf (plan .identifiers) live c)) (sym (found-serial (plan .identifiers) live c s k ek l))
-                ∙ relabelled-places plan next live xs ts ls gs (formed plan next live c g eg h) k l label ls′ (let f = few in omega arith) el)
+                sym (ap (λ (s : ℕ). relabel s label (processesOf (planFor row .identifiers) live c)) (sym (found-serial (planFor row .identifiers) live c s k ek l))
+                ∙ relabelled-places (planFor row) next live xs ts ls gs (formed (planFor row) next live c g eg h) k l label ls′ (let f = few in omega arith) el)
 
       module _ (q : ℕ) where
-        pub raise-refused : answerFor q ≡ refusalOf (plan .identifiers) (t .risk) (t .pos) i → (q ≡ 0 → ⊥)
-            → Did plan next live (cells xs ts ls gs) (Refused q) next live (cells xs ts ls gs) (run boxLimits (machineFrom plan next live (cells xs ts ls gs)) (raise s i))
+        pub raise-refused : answerFor q ≡ refusalOf (getD row 1 0) (t .risk) (t .pos) i → (q ≡ 0 → ⊥)
+            → Did (planFor row) next live (cells xs ts ls gs) (Refused q) next live (cells xs ts ls gs) (run boxLimits (machineFrom (planFor row) next live (cells xs ts ls gs)) (raise s i))
         raise-refused eq n = call-refused (t .pos) q eq _ _ raise-found n
 
-        pub lower-refused : answerFor q ≡ refusalOf (plan .identifiers) (t .risk) (t .neg) i → (q ≡ 0 → ⊥)
-            → Did plan next live (cells xs ts ls gs) (Refused q) next live (cells xs ts ls gs) (run boxLimits (machineFrom plan next live (cells xs ts ls gs)) (lower s i))
+        pub lower-refused : answerFor q ≡ refusalOf (getD row 1 0) (t .risk) (t .neg) i → (q ≡ 0 → ⊥)
+            → Did (planFor row) next live (cells xs ts ls gs) (Refused q) next live (cells xs ts ls gs) (run boxLimits (machineFrom (planFor row) next live (cells xs ts ls gs)) (lower s i))
         lower-refused eq n = call-refused (t .neg) q eq _ _ lower-found n
 
-        pub raise-done : answerFor q ≡ refusalOf (plan .identifiers) (t .risk) (t .pos) i → q ≡ 0
+        pub raise-done : answerFor q ≡ refusalOf (getD row 1 0) (t .risk) (t .pos) i → q ≡ 0
             → (ls′ : List ℕ) → length ls ≡ 128 → ls′ ≡ set ls k (plus (getD ls k 0) i)
-            → Did plan next live (cells xs ts ls gs) Done next live (cells xs ts ls′ gs) (run boxLimits (machineFrom plan next live (cells xs ts ls gs)) (raise s i))
+            → Did (planFor row) next live (cells xs ts ls gs) Done next live (cells xs ts ls′ gs) (run boxLimits (machineFrom (planFor row) next live (cells xs ts ls gs)) (raise s i))
         raise-done eq z ls′ n el = call-done (t .pos) q eq _ _ raise-found z ls′ n el
 
-        pub lower-done : answerFor q ≡ refusalOf (plan .identifiers) (t .risk) (t .neg) i → q ≡ 0
+        pub lower-done : answerFor q ≡ refusalOf (getD row 1 0) (t .risk) (t .neg) i → q ≡ 0
             → (ls′ : List ℕ) → length ls ≡ 128 → ls′ ≡ set ls k (without (getD ls k 0) (2 ^ i))
-            → Did plan next live (cells xs ts ls gs) Done next live (cells xs ts ls′ gs) (run boxLimits (machineFrom plan next live (cells xs ts ls gs)) (lower s i))
+            → Did (planFor row) next live (cells xs ts ls gs) Done next live (cells xs ts ls′ gs) (run boxLimits (machineFrom (planFor row) next live (cells xs ts ls gs)) (lower s i))
         lower-done eq z ls′ n el = call-done (t .neg) q eq _ _ lower-found z ls′ n el
 
 -- The identifier and the place are within what the code reaches into.
-module _ (plan : Plan) (next live : ℕ) (c : Cells) (g : Bool) (eg : g ≡ wellFormed boxLimits (machineFrom plan next live c)) (h : not g ≡ false) where
-  pub below-width : (risk : Bool) (allowed i q : ℕ) → answerFor q ≡ refusalOf (plan .identifiers) risk allowed i → q ≡ 0 → i < 32
+module _ (row : List ℕ) (next live : ℕ) (c : Cells) (g : Bool) (eg : g ≡ wellFormed boxLimits (machineFrom (planFor row) next live c)) (h : not g ≡ false) where
+  pub below-width : (risk : Bool) (allowed i q : ℕ) → answerFor q ≡ refusalOf (getD row 1 0) risk allowed i → q ≡ 0 → i < 32
   below-width risk allowed i q eq z =
-      let a = few-identifiers plan next live c g eg h in
-      let b = not-refused (plan .identifiers) risk allowed i q eq z in
+      let a = few-words row next live c g eg h in
+      let b = not-refused (getD row 1 0) risk allowed i q eq z in
       omega arith
 
   pub place-within : (k : ℕ) → k < live → (l : List ℕ) → length l ≡ 128 → k < length l
-  place-within k b l e = let f = few-live plan next live c g eg h in omega arith
+  place-within k b l e = let f = few-live (planFor row) next live c g eg h in omega arith

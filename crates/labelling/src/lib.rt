@@ -1,10 +1,10 @@
-// Document 01, Raise and lower, on lent arrays. Only the labels change.
+// Document 01, Raise and lower, on a lent row and lent arrays. Only the labels change.
 use machine::Answer;
-use plan::Plan;
 ghost use mathlib.Core.Path.{_≡_};
 ghost use Prim.Native.Nat.{_<_, _≤_, _^_};
 ghost use lib.ListN.{getD, length, set};
 ghost use Rattle.mask.specs.Mask.{plus, without};
+ghost use Rattle.planrow.specs.Lookup.{planFor};
 ghost use Rattle.machine.specs.Machine.{boxLimits, raise, lower, run};
 ghost use Rattle.machine.specs.State.{machineFrom};
 ghost use Rattle.population.specs.Arrays.{cells};
@@ -54,7 +54,7 @@ fn lower_at(labels: &mut [u32], k: usize, i: u32)
 
 // Document 01, Raise: 20; 21; 27 if the identifier is not below M; 28 if the template is not at risk; 29 if not in pos.
 pub fn raise<'a>(
-    plan: Plan,
+    row: &'a [u32; 514],
     next: u32,
     live: usize,
     serials: &'a [u32; 128],
@@ -67,17 +67,18 @@ pub fn raise<'a>(
     ensures { λ r.
         let c = cells (now (serials .entry)) (now (templates .entry)) (now (labels .entry)) (now (tags .entry)) in
         let d = cells (now (serials .entry)) (now (templates .entry)) (now (labels .exit)) (now (tags .entry)) in
-        ⌜ Did plan next live c r next live d (run boxLimits (machineFrom plan next live c) (raise serial identifier)) ⌝ }
+        ⌜ Did (planFor (now (row .entry))) next live c r next live d (run boxLimits (machineFrom (planFor (now (row .entry))) next live c) (raise serial identifier)) ⌝ }
 {
-    if !population::is_well_formed(plan, next, live, serials, templates, labels, tags) {
+    if !population::is_well_formed(row, next, live, serials, templates, labels, tags) {
         return Answer::Refused(population::BAD_STATE);
     }
     let k = population::place_of(serials, live, serial);
     if live <= k {
         return Answer::Refused(population::NOT_LIVE);
     }
-    let t = plan::template_at(plan, templates[k]);
-    let number = refusal(plan.identifiers, t.risk, t.pos, identifier);
+    let m = row[1];
+    let t = planrow::template_at(row, templates[k]);
+    let number = refusal(m, t.risk, t.pos, identifier);
     if number != 0 {
         return Answer::Refused(number);
     }
@@ -87,7 +88,7 @@ pub fn raise<'a>(
 
 // Document 01, Lower: the same, 29 if not in neg.
 pub fn lower<'a>(
-    plan: Plan,
+    row: &'a [u32; 514],
     next: u32,
     live: usize,
     serials: &'a [u32; 128],
@@ -100,17 +101,18 @@ pub fn lower<'a>(
     ensures { λ r.
         let c = cells (now (serials .entry)) (now (templates .entry)) (now (labels .entry)) (now (tags .entry)) in
         let d = cells (now (serials .entry)) (now (templates .entry)) (now (labels .exit)) (now (tags .entry)) in
-        ⌜ Did plan next live c r next live d (run boxLimits (machineFrom plan next live c) (lower serial identifier)) ⌝ }
+        ⌜ Did (planFor (now (row .entry))) next live c r next live d (run boxLimits (machineFrom (planFor (now (row .entry))) next live c) (lower serial identifier)) ⌝ }
 {
-    if !population::is_well_formed(plan, next, live, serials, templates, labels, tags) {
+    if !population::is_well_formed(row, next, live, serials, templates, labels, tags) {
         return Answer::Refused(population::BAD_STATE);
     }
     let k = population::place_of(serials, live, serial);
     if live <= k {
         return Answer::Refused(population::NOT_LIVE);
     }
-    let t = plan::template_at(plan, templates[k]);
-    let number = refusal(plan.identifiers, t.risk, t.neg, identifier);
+    let m = row[1];
+    let t = planrow::template_at(row, templates[k]);
+    let number = refusal(m, t.risk, t.neg, identifier);
     if number != 0 {
         return Answer::Refused(number);
     }

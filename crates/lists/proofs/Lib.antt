@@ -4,3 +4,4 @@ pub mod Lowest
 pub mod Tabulate
 pub mod Put
 pub mod Length
+pub mod Written

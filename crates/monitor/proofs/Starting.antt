@@ -4,8 +4,9 @@ use mathlib.Core.Path.{_≡_, refl, sym, ap, _∙_}
 use mathlib.Core.Logic.{_≢_}
 use mathlib.Core.Bool.{Bool, true, false, not, false≢true}
 use mathlib.Core.List.{List, [], _∷_}
+use mathlib.Core.Option.{some}
 use native.Mathlib.Omega.{arith}
-use lib.ListN.{getD, replicate, getD-replicate}
+use lib.ListN.{length, getD, replicate, getD-replicate}
 use borrow.Author.Tests.{not-true, not-false}
 use Rattle.lists.specs.Numbers.{tabulate}
 use Rattle.lists.proofs.Tabulate.{tabulate-ext}
@@ -14,10 +15,16 @@ use Rattle.plan.specs.declared.Plan.{Plan}
 use Rattle.plan.specs.Plan.{at}
 use Rattle.text.specs.declared.PlanRead.{PlanRead}
 use Rattle.text.specs.Reading.{readPlan}
+use Rattle.reader.proofs.Range.{plan-in-range}
+use Rattle.planrow.specs.Row.{planOfRow, rowOfPlan}
+use Rattle.planrow.specs.Lookup.{planFor}
+use Rattle.planrow.proofs.RoundTrip.{round-trip}
+use Rattle.planrow.proofs.Lookup.{stands-for}
 use Rattle.rules.specs.declared.Verdict.{Verdict}
 use Rattle.rules.specs.declared.Verdict.the-variants.{Accepted, Broken, Unread}
 use Rattle.rules.specs.Judge.{judge}
 use Rattle.rules.specs.Broken.{accepted}
+use Rattle.verdict.proofs.Exact.{accepted-exactly}
 use Rattle.machine.specs.declared.State.{State}
 use Rattle.machine.specs.Machine.{start, root}
 use Rattle.machine.specs.State.{Cells, placed, processesOf, machineFrom, machineOf, blankState, startOn, started}
@@ -100,3 +107,16 @@ module _ (planText policyText : List ℕ) (v : Verdict) (ev : v ≡ judge planTe
         e ∙ ap (λ (r : PlanRead). start (r .plan)) er ∙ sym (meant ∙ ap (λ (v : Verdict). startOn v (readPlan planText .plan)) a),
         λ w. absurd (w a),
       )
+
+-- ---- the row of a started plan
+
+-- An accepted plan is what its row means,
+pub accepted-means : (planText policyText : List ℕ) → judge planText policyText ≡ Accepted → length (readPlan planText .plan .templates) ≡ 64
+    → planOfRow (rowOfPlan (readPlan planText .plan)) ≡ some (readPlan planText .plan)
+accepted-means planText policyText e sized =
+    round-trip (readPlan planText .plan) (plan-in-range planText (accepted-exactly planText policyText .0 e .plan-reads)) sized
+
+-- and so what its row stands for.
+pub accepted-row : (planText policyText : List ℕ) → judge planText policyText ≡ Accepted → length (readPlan planText .plan .templates) ≡ 64
+    → planFor (rowOfPlan (readPlan planText .plan)) ≡ readPlan planText .plan
+accepted-row planText policyText e sized = stands-for _ _ (accepted-means planText policyText e sized)

@@ -1,12 +1,10 @@
 // The monitor's operations by value. Start judges two texts. Each other takes any state at all and hands back the
-// machine's answer and the machine's state; refused, the very state that it got. The work is done on lent arrays by the crates below: see
-// docs/ARCHITECTURE.md on why no state goes further down by value.
+// machine's answer and the machine's state; refused, the very state that it got. The work is done on the plan's row and on
+// lent arrays by the crates below: see docs/ARCHITECTURE.md on why no state goes further down by value.
 use machine::Answered;
 use machine::Started;
 use machine::State;
-use plan::Form;
 use plan::Plan;
-use plan::Template;
 ghost use mathlib.Core.Path.{_≡_};
 ghost use mathlib.Core.Logic.{_≢_};
 ghost use Rattle.rules.specs.declared.Verdict.the-variants.{Accepted};
@@ -18,14 +16,8 @@ ghost use Rattle.machine.specs.State.{machineOf, outcomeOf, ifRefused, blankSta
 fn blank_state() -> State
     ensures { λ r. ⌜ r ≡ blankState ⌝ }
 {
-    let none = [Template {
-        form: Form::End,
-        lab: 0,
-        pos: 0,
-        neg: 0,
-        creates: 0,
-        risk: false,
-    }; 64];
+    let blank = plan::blank_template();
+    let none = [blank; 64];
     let plan = Plan {
         count: 0,
         identifiers: 0,
@@ -92,12 +84,13 @@ pub fn step(state: State, serial: u32, branch: u32) -> Answered
     ensures { λ r. ⌜ (outcomeOf r ≡ run boxLimits (machineOf state) (step serial branch)) × ifRefused (r .answer) (r .state ≡ state) ⌝ }
 {
     let plan = state.plan;
+    let row = planrow::row_of(plan);
     let mut serials = state.serials;
     let mut templates = state.templates;
     let mut labels = state.labels;
     let mut tags = state.tags;
     let r = stepping::step(
-        plan,
+        &row,
         state.next,
         state.live,
         &mut serials,
@@ -128,20 +121,34 @@ pub fn send(state: State, from: u32, to: u32) -> Answered
     ensures { λ r. ⌜ (outcomeOf r ≡ run boxLimits (machineOf state) (send from to)) × (r .state ≡ state) ⌝ }
 {
     let plan = state.plan;
+    let row = planrow::row_of(plan);
+    let serials = state.serials;
+    let templates = state.templates;
+    let labels = state.labels;
+    let tags = state.tags;
     let answer = delivery::send(
-        plan,
+        &row,
         state.next,
         state.live,
-        &state.serials,
-        &state.templates,
-        &state.labels,
-        &state.tags,
+        &serials,
+        &templates,
+        &labels,
+        &tags,
         from,
         to,
     );
+    let kept = State {
+        plan: plan,
+        next: state.next,
+        live: state.live,
+        serials: serials,
+        templates: templates,
+        labels: labels,
+        tags: tags,
+    };
     Answered {
         answer: answer,
-        state: state,
+        state: kept,
     }
 }
 
@@ -150,20 +157,31 @@ pub fn raise(state: State, serial: u32, identifier: u32) -> Answered
     ensures { λ r. ⌜ (outcomeOf r ≡ run boxLimits (machineOf state) (raise serial identifier)) × ifRefused (r .answer) (r .state ≡ state) ⌝ }
 {
     let plan = state.plan;
+    let row = planrow::row_of(plan);
+    let serials = state.serials;
+    let templates = state.templates;
     let mut labels = state.labels;
+    let tags = state.tags;
     let answer = labelling::raise(
-        plan,
+        &row,
         state.next,
         state.live,
-        &state.serials,
-        &state.templates,
+        &serials,
+        &templates,
         &mut labels,
-        &state.tags,
+        &tags,
         serial,
         identifier,
     );
-    let mut raised = state;
-    raised.labels = labels;
+    let raised = State {
+        plan: plan,
+        next: state.next,
+        live: state.live,
+        serials: serials,
+        templates: templates,
+        labels: labels,
+        tags: tags,
+    };
     Answered {
         answer: answer,
         state: raised,
@@ -175,20 +193,31 @@ pub fn lower(state: State, serial: u32, identifier: u32) -> Answered
     ensures { λ r. ⌜ (outcomeOf r ≡ run boxLimits (machineOf state) (lower serial identifier)) × ifRefused (r .answer) (r .state ≡ state) ⌝ }
 {
     let plan = state.plan;
+    let row = planrow::row_of(plan);
+    let serials = state.serials;
+    let templates = state.templates;
     let mut labels = state.labels;
+    let tags = state.tags;
     let answer = labelling::lower(
-        plan,
+        &row,
         state.next,
         state.live,
-        &state.serials,
-        &state.templates,
+        &serials,
+        &templates,
         &mut labels,
-        &state.tags,
+        &tags,
         serial,
         identifier,
     );
-    let mut lowered = state;
-    lowered.labels = labels;
+    let lowered = State {
+        plan: plan,
+        next: state.next,
+        live: state.live,
+        serials: serials,
+        templates: templates,
+        labels: labels,
+        tags: tags,
+    };
     Answered {
         answer: answer,
         state: lowered,

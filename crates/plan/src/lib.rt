@@ -1,7 +1,7 @@
 // A plan and a policy as they are after reading, and what stands at a place of them.
 ghost use mathlib.Core.Path.{_≡_};
 ghost use Prim.Native.Nat.{min};
-ghost use Rattle.plan.specs.Plan.{at, successors, assertionAt};
+ghost use Rattle.plan.specs.Plan.{blank, at, successors, assertionAt};
 ghost use Rattle.plan.specs.Listed.{listed};
 
 // Document 01, `form=`: the numbers are the successors Y and Z.
@@ -66,20 +66,27 @@ pub fn capped(count: usize, limit: u8) -> u8
     limit
 }
 
+// What stands at a place that no line of a text filled.
+pub fn blank_template() -> Template
+    ensures { λ r. ⌜ r ≡ blank ⌝ }
+{
+    Template {
+        form: Form::End,
+        lab: 0,
+        pos: 0,
+        neg: 0,
+        creates: 0,
+        risk: false,
+    }
+}
+
 // The template of that number, blank where the plan has no place for it.
 pub fn template_at(plan: Plan, x: u8) -> Template
     ensures { λ r. ⌜ r ≡ at plan x ⌝ }
 {
     let i = x as usize;
     if 64 <= i {
-        return Template {
-            form: Form::End,
-            lab: 0,
-            pos: 0,
-            neg: 0,
-            creates: 0,
-            risk: false,
-        };
+        return blank_template();
     }
     plan.templates[i]
 }

@@ -1,6 +1,6 @@
 -- What the readers of a row meet: the tests one by one, and a turn of each loop.
-use Prim.Native.Nat.{ℕ, zero, suc, _+_, _*_, _/_, _%_, min, _≤_, _<_}
-use mathlib.Core.Path.{_≡_, refl, sym, ap, _∙_, subst}
+use Prim.Native.Nat.{ℕ, zero, suc, _+_, _-_, _*_, _/_, _%_, min, _≤_, _<_}
+use mathlib.Core.Path.{_≡_, refl, sym, ap, ap₂, _∙_, subst}
 use mathlib.Core.Bool.{Bool, true, false, not, cond, _&&_}
 use mathlib.Core.Logic.{⊎-elim}
 use mathlib.Core.List.{List, [], _∷_}
@@ -17,6 +17,8 @@ use Rattle.lists.specs.Numbers.{every, tabulate}
 use Rattle.lists.proofs.Tests.{lt-or-le, and-left, and-right}
 use Rattle.lists.proofs.Every.{every-acc, every-at}
 use Rattle.lists.proofs.Tabulate.{length-tabulate, getD-tabulate}
+use Rattle.lists.specs.Writes.{written}
+use Rattle.lists.proofs.Written.{written-in, written-below, written-above}
 use Rattle.plan.specs.declared.Form.{Form}
 use Rattle.plan.specs.declared.Form.the-variants.{End, Go, Either, Both}
 use Rattle.plan.specs.declared.Template.{Template}
@@ -24,7 +26,7 @@ use Rattle.plan.specs.declared.Plan.{Plan}
 use Rattle.plan.specs.Plan.{blank, at}
 use Rattle.planrow.specs.declared.RowRead.{RowRead}
 use Rattle.planrow.specs.declared.FormWords.{FormWords}
-use Rattle.planrow.specs.Row.{wordAt, formOf, templateIn, isTemplate, isPlan, planIn, planOfRow, formNumber, firstOf, secondOf, wordsOf, rowOfPlan, meant}
+use Rattle.planrow.specs.Row.{wordAt, formOf, templateIn, isTemplate, isPlan, planIn, planOfRow, formNumber, firstOf, secondOf, wordsOf, wordIn, rowOfPlan, meant}
 
 -- ---- a form by its number
 
@@ -49,7 +51,7 @@ form-both (suc (suc (suc n))) Y Z a b c = refl
 
 -- ---- a template by its words
 
-word-first : (row : List ℕ) (X : ℕ) → getD row (2 + 8 * X) 0 ≡ wordAt row X 0
+pub word-first : (row : List ℕ) (X : ℕ) → getD row (2 + 8 * X) 0 ≡ wordAt row X 0
 unfolding wordAt
 word-first row X = ap (λ (j : ℕ). getD row j 0) same
   where
@@ -142,15 +144,15 @@ blanks (suc n) zero = refl
 blanks (suc n) (suc j) = blanks n j
 
 module _ (row : List ℕ) (n : ℕ) where
-  pub filling-none : isPlan row ≡ true → n ≡ getD row 0 0 → Filling row n (replicate 64 blank) 0
-  filling-none e q = record {
+  pub filling-none : (b : Template) → b ≡ blank → isPlan row ≡ true → n ≡ getD row 0 0 → Filling row n (replicate 64 b) 0
+  filling-none b eb e q = subst (λ (b : Template). Filling row n (replicate 64 b) 0) (sym eb) (record {
     means = e;
     limit = q;
     few = subst (λ (n : ℕ). n ≤ 64) (sym q) (plan-count row e);
     so-far = omega arith;
     room = refl;
     each = λ j. blanks 64 j ∙ ap (λ (b : Bool). cond b (templateIn row j) blank) (sym (le-ltb j 0 (omega arith)));
-  }
+  })
 
   pub filling-more : (templates : List Template) (i : ℕ) (t : Template) → Filling row n templates i → i < n → t ≡ templateIn row i
       → Filling row n (set templates i t) (i + 1)
@@ -218,54 +220,98 @@ pub read-so : (row : List ℕ) (b : Bool) (r : RowRead) → b ≡ isPlan row →
 unfolding meant planOfRow
 read-so row b r e h k q = rw (k, q, sym e ∙ not-false b h)
 
--- ---- the row of a plan, word after word
+-- ---- the row of a plan, template after template
 
-abbrev pub wordIn : Plan → ℕ → ℕ
-wordIn plan j = getD (wordsOf (at plan (j / 8))) (j % 8) 0
+zeros : (n j : ℕ) → _≡_ {A = ℕ} (getD (replicate n 0) j 0) 0
+zeros zero j = refl
+zeros (suc n) zero = refl
+zeros (suc n) (suc j) = zeros n j
 
-pub record Writing (plan : Plan) (row : List ℕ) (i : ℕ) : Type 0 where
+-- After i of n templates: their words stand there, and 0 past them.
+pub record Writing (plan : Plan) (n : ℕ) (row : List ℕ) (i : ℕ) : Type 0 where
+  pub limit : n ≡ min (plan .count) 64
+  pub so-far : i ≤ n
   pub room : length row ≡ 514
-  pub so-far : i ≤ 512
   pub counted : getD row 0 0 ≡ min (plan .count) 65
   pub identified : getD row 1 0 ≡ plan .identifiers
-  pub each : (j : ℕ) → j < i → getD row (j + 2) 0 ≡ wordIn plan j
+  pub each : (j : ℕ) → j < 8 * i → getD row (j + 2) 0 ≡ wordIn plan j
+  pub rest : (j : ℕ) → 8 * i ≤ j → getD row (j + 2) 0 ≡ 0
 
-module _ (plan : Plan) where
-  pub writing-none : (row : List ℕ) (count : ℕ) → length row ≡ 514 → count ≡ min (plan .count) 65 → Writing plan (set (set row 0 count) 1 (plan .identifiers)) 0
-  writing-none row count l e = record {
-    room = length-set (set row 0 count) 1 (plan .identifiers) ∙ length-set row 0 count ∙ l;
+-- The words of template i.
+word-here : (plan : Plan) (i j : ℕ) → i < plan .count → 8 * i ≤ j → j < 8 * i + 8 → wordIn plan j ≡ getD (wordsOf (at plan i)) (j - 8 * i) 0
+unfolding wordIn
+word-here plan i j h l m =
+    ap₂ (λ (x k : ℕ). cond (ltb x (plan .count)) (getD (wordsOf (at plan x)) k 0) 0) whole left
+    ∙ ap (λ (b : Bool). cond b (getD (wordsOf (at plan i)) (j - 8 * i) 0) 0) (lt-ltb i (plan .count) h)
+  where
+    whole : j / 8 ≡ i
+    whole = omega arith
+
+    left : j % 8 ≡ j - 8 * i
+    left = omega arith
+
+word-past : (plan : Plan) (j : ℕ) → plan .count ≤ j / 8 → wordIn plan j ≡ 0
+unfolding wordIn
+word-past plan j h =
+    ap (λ (b : Bool). cond b (getD (wordsOf (at plan (j / 8))) (j % 8) 0) 0) (le-ltb (j / 8) (plan .count) h)
+
+module _ (plan : Plan) (n : ℕ) where
+  pub writing-none : (count : ℕ) → n ≡ min (plan .count) 64 → count ≡ min (plan .count) 65
+      → Writing plan n (set (set (replicate 514 0) 0 count) 1 (plan .identifiers)) 0
+  writing-none count q e = record {
+    limit = q;
     so-far = omega arith;
-    counted = getD-set-other (set row 0 count) 1 0 (plan .identifiers) 0 (λ q. omega arith) ∙ getD-set-same row 0 count 0 (omega (arith, l)) ∙ e;
-    identified = getD-set-same (set row 0 count) 1 (plan .identifiers) 0 (omega (arith, length-set row 0 count, l));
+    room = length-set (set (replicate 514 0) 0 count) 1 (plan .identifiers) ∙ length-set (replicate 514 0) 0 count;
+    counted = e;
+    identified = refl;
     each = λ j h. omega arith;
-  }
-
-  more : (row : List ℕ) (i v : ℕ) → Writing plan row i → i < 512 → v ≡ wordIn plan i → Writing plan (set row (i + 2) v) (i + 1)
-  more row i v w h e = record {
-    room = length-set row (i + 2) v ∙ w .room;
-    so-far = omega arith;
-    counted = getD-set-other row (i + 2) 0 v 0 (λ q. omega arith) ∙ w .counted;
-    identified = getD-set-other row (i + 2) 1 v 0 (λ q. omega arith) ∙ w .identified;
-    each = λ j l. ⊎-elim (λ k. getD-set-other row (i + 2) (j + 2) v 0 (λ q. omega arith) ∙ w .each j k) (λ k. here j (omega arith)) (lt-or-le j i);
+    rest = λ j h. ap (λ (k : ℕ). getD (set (set (replicate 514 0) 0 count) 1 (plan .identifiers)) k 0) (two-on j) ∙ zeros 512 j;
   }
     where
-      here : (j : ℕ) → j ≡ i → getD (set row (i + 2) v) (j + 2) 0 ≡ wordIn plan j
-      here j q =
-          ap (λ (k : ℕ). getD (set row (i + 2) v) (k + 2) 0) q
-          ∙ getD-set-same row (i + 2) v 0 (omega (arith, w .room)) ∙ e ∙ ap (wordIn plan) (sym q)
+      two-on : (j : ℕ) → j + 2 ≡ suc (suc j)
+      two-on j = omega arith
 
-  pub writing-more : (row words : List ℕ) (i : ℕ) → Writing plan row i → i < 512 → words ≡ wordsOf (at plan (i / 8))
-      → Writing plan (set row (i + 2) (getD words (i % 8) 0)) (i + 1)
-  writing-more row words i w h q = more row i (getD words (i % 8) 0) w h (ap (λ (l : List ℕ). getD l (i % 8) 0) q)
+  pub writing-more : (row row′ words : List ℕ) (i : ℕ) (t : Template) → Writing plan n row i → i < n → t ≡ at plan i → words ≡ wordsOf t
+      → length row′ ≡ 514 → ((j : ℕ) → getD row′ j 0 ≡ written row (2 + 8 * i) 8 (λ k. getD words k 0) j) → Writing plan n row′ (i + 1)
+  writing-more row row′ words i t w h et ew l e = record {
+    limit = w .limit;
+    so-far = omega arith;
+    room = l;
+    counted = e 0 ∙ written-below row (2 + 8 * i) 8 (λ k. getD words k 0) 0 (omega arith) ∙ w .counted;
+    identified = e 1 ∙ written-below row (2 + 8 * i) 8 (λ k. getD words k 0) 1 (omega arith) ∙ w .identified;
+    each = λ j k. ⊎-elim (before j) (λ m. here j m (omega arith)) (lt-or-le j (8 * i));
+    rest = λ j k. e (j + 2) ∙ written-above row (2 + 8 * i) 8 (λ k. getD words k 0) (j + 2) (omega arith) ∙ w .rest j (omega arith);
+  }
+    where
+      here-below : i < plan .count
+      here-below = let q = w .limit in omega arith
 
-  pub writing-all : (row : List ℕ) (i : ℕ) → Writing plan row i → 512 ≤ i → row ≡ rowOfPlan plan
+      before : (j : ℕ) → j < 8 * i → getD row′ (j + 2) 0 ≡ wordIn plan j
+      before j k = e (j + 2) ∙ written-below row (2 + 8 * i) 8 (λ k. getD words k 0) (j + 2) (omega arith) ∙ w .each j k
+
+      here : (j : ℕ) → 8 * i ≤ j → j < 8 * i + 8 → getD row′ (j + 2) 0 ≡ wordIn plan j
+      here j k m =
+          e (j + 2) ∙ written-in row (2 + 8 * i) 8 (λ k. getD words k 0) (j + 2) (omega arith) (omega arith)
+          ∙ ap₂ (λ (ws : List ℕ) (k : ℕ). getD ws k 0) (ew ∙ ap wordsOf et) (omega arith)
+          ∙ sym (word-here plan i j here-below k m)
+
+  pub writing-room : (row : List ℕ) (i : ℕ) → Writing plan n row i → i < n → 2 + 8 * i + 8 ≤ length row
+  writing-room row i w h = omega (arith, w .limit, w .room)
+
+  pub writing-all : (row : List ℕ) (i : ℕ) → Writing plan n row i → n ≤ i → row ≡ rowOfPlan plan
   unfolding rowOfPlan
   writing-all row i w h =
       ext-getD 0 row _ (w .room ∙ sym (ap (λ (n : ℕ). suc (suc n)) (length-tabulate 512 (wordIn plan)))) at-each
     where
+      past : (j : ℕ) → j < 512 → 8 * i ≤ j → plan .count ≤ j / 8
+      past j l m = omega (arith, w .limit, w .so-far)
+
+      word : (j : ℕ) → j < 512 → getD row (j + 2) 0 ≡ wordIn plan j
+      word j l = ⊎-elim (w .each j) (λ m. w .rest j m ∙ sym (word-past plan j (past j l m))) (lt-or-le j (8 * i))
+
       at-each : (j : ℕ) → j < length row → getD row j 0 ≡ getD (min (plan .count) 65 ∷ plan .identifiers ∷ tabulate 512 (wordIn plan)) j 0
       at-each zero l = w .counted
       at-each (suc zero) l = w .identified
       at-each (suc (suc j)) l =
-          ap (λ (k : ℕ). getD row k 0) (omega arith) ∙ w .each j (omega (arith, w .room, w .so-far))
+          ap (λ (k : ℕ). getD row k 0) (omega arith) ∙ word j (omega (arith, w .room))
           ∙ sym (getD-tabulate 512 (wordIn plan) j 0 (omega (arith, w .room)))

@@ -90,10 +90,13 @@ wordsOf t =
     ∷ cond (t .risk) 1 0
     ∷ []
 
+-- Word j of its templates; past N each is 0.
+unfoldable pub wordIn : Plan → ℕ → ℕ
+wordIn plan j = cond (ltb (j / 8) (plan .count)) (getD (wordsOf (at plan (j / 8))) (j % 8) 0) 0
+
 -- The row of a plan; one of more than 64 templates has none, and 65 says so.
 unfoldable pub rowOfPlan : Plan → List ℕ
-rowOfPlan plan =
-    min (plan .count) 65 ∷ plan .identifiers ∷ tabulate 512 (λ j. getD (wordsOf (at plan (j / 8))) (j % 8) 0)
+rowOfPlan plan = min (plan .count) 65 ∷ plan .identifiers ∷ tabulate 512 (wordIn plan)
 
 -- ---- the code's own answer
 

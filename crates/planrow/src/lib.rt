@@ -4,9 +4,11 @@ use plan::Plan;
 use plan::Template;
 ghost use mathlib.Core.Path.{_≡_};
 ghost use mathlib.Core.Bool.{true, cond};
-ghost use Prim.Native.Nat.{_<_, _≤_, min};
-ghost use lib.ListN.{length};
+ghost use Prim.Native.Nat.{ℕ, _+_, _<_, _≤_, min};
+ghost use Rattle.lists.specs.Writes.{written};
+ghost use lib.ListN.{getD, length};
 ghost use Rattle.planrow.specs.Row.{formOf, templateIn, isTemplate, isPlan, planIn, planOfRow, formNumber, firstOf, secondOf, wordsOf, rowOfPlan, meant};
+ghost use Rattle.planrow.specs.Lookup.{templateAt};
 
 // What a row was read as: a plan, where it means one, and else the blank plan.
 pub struct RowRead {
@@ -37,7 +39,7 @@ fn wide(x: u32) -> usize
 }
 
 // Whether the row means a plan.
-fn is_plan(row: &[u32; 514]) -> bool
+pub fn is_plan(row: &[u32; 514]) -> bool
     ensures { λ r. ⌜ r ≡ isPlan (now (row .entry)) ⌝ }
 {
     let n = wide(row[0]);
@@ -85,19 +87,27 @@ fn template_in(row: &[u32; 514], x: usize) -> Template
     }
 }
 
+// The template whose words stand at x, and the blank one where they are none.
+pub fn template_at(row: &[u32; 514], x: u8) -> Template
+    ensures { λ r. ⌜ r ≡ templateAt (now (row .entry)) x ⌝ }
+{
+    let at = x as usize;
+    if 64 <= at {
+        return plan::blank_template();
+    }
+    if !is_template(row, at) {
+        return plan::blank_template();
+    }
+    template_in(row, at)
+}
+
 // The plan that a row means; the templates past its number stay blank.
 fn plan_in(row: &[u32; 514]) -> Plan
     requires { ⌜ isPlan (now row) ≡ true ⌝ }
     ensures { λ r. ⌜ r ≡ planIn (now (row .entry)) ⌝ }
 {
-    let mut templates = [Template {
-        form: Form::End,
-        lab: 0,
-        pos: 0,
-        neg: 0,
-        creates: 0,
-        risk: false,
-    }; 64];
+    let blank = plan::blank_template();
+    let mut templates = [blank; 64];
     let n = wide(row[0]);
     let mut i: usize = 0;
     while i < n {
@@ -117,22 +127,16 @@ pub fn read_row(row: &[u32; 514]) -> RowRead
     ensures { λ r. ⌜ meant r ≡ planOfRow (now (row .entry)) ⌝ }
 {
     if !is_plan(row) {
-        let none = [Template {
-            form: Form::End,
-            lab: 0,
-            pos: 0,
-            neg: 0,
-            creates: 0,
-            risk: false,
-        }; 64];
-        let blank = Plan {
+        let blank = plan::blank_template();
+        let templates = [blank; 64];
+        let none = Plan {
             count: 0,
             identifiers: 0,
-            templates: none,
+            templates: templates,
         };
         return RowRead {
             known: false,
-            plan: blank,
+            plan: none,
         };
     }
     let plan = plan_in(row);
@@ -194,6 +198,18 @@ fn count_word(n: usize) -> u32
     if n < 65 { n as u32 } else { 65 }
 }
 
+// Stores eight words from a place on.
+fn put_words(row: &mut [u32], at: usize, words: [u32; 8])
+    requires { ⌜ at + 8 ≤ length (now row) ⌝ }
+    ensures { λ _. ⌜ ((j : ℕ) → getD (now (row .exit)) j 0 ≡ written (now (row .entry)) at 8 (λ k. getD words k 0) j) ⌝ }
+{
+    let mut k: usize = 0;
+    while k < 8 {
+        row[at + k] = words[k];
+        k += 1;
+    }
+}
+
 // The row of a plan.
 pub fn row_of(plan: Plan) -> [u32; 514]
     ensures { λ r. ⌜ (r ≡ rowOfPlan plan) × (length (plan .templates) ≡ 64) ⌝ }
@@ -201,12 +217,13 @@ pub fn row_of(plan: Plan) -> [u32; 514]
     let mut row = [0u32; 514];
     row[0] = count_word(plan.count);
     row[1] = plan.identifiers;
-    let mut j: usize = 0;
-    while j < 512 {
-        let t = plan.templates[j / 8];
+    let n = plan::capped(plan.count, 64) as usize;
+    let mut i: usize = 0;
+    while i < n {
+        let t = plan.templates[i];
         let words = words_of(t);
-        row[j + 2] = words[j % 8];
-        j += 1;
+        put_words(&mut row, 2 + 8 * i, words);
+        i += 1;
     }
     row
 }

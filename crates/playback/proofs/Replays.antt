@@ -6,6 +6,9 @@ use mathlib.Core.Bool.{Bool, true, false, not}
 use mathlib.Core.List.{List}
 use lib.ListN.{length}
 use borrow.Author.Tests.{not-true, not-false}
+use Rattle.plan.specs.declared.Plan.{Plan}
+use Rattle.planrow.specs.Row.{rowOfPlan}
+use Rattle.planrow.specs.Lookup.{planFor}
 use Rattle.text.specs.Reading.{readPlan}
 use Rattle.rules.specs.declared.Verdict.{Verdict}
 use Rattle.rules.specs.declared.Verdict.the-variants.{Accepted, Broken, Unread}
@@ -13,8 +16,9 @@ use Rattle.rules.specs.Judge.{judge}
 use Rattle.rules.specs.Broken.{accepted}
 use Rattle.machine.specs.declared.State.{State}
 use Rattle.machine.specs.Machine.{Machine, start}
-use Rattle.machine.specs.State.{machineOf, blankState, startOn, started}
-use Rattle.monitor.proofs.Starting.{is-accepted, not-accepted}
+use Rattle.machine.specs.State.{Cells, machineFrom, cellsOf, machineOf, blankState, startOn, started}
+use Rattle.monitor.proofs.Kept.{rebuilt}
+use Rattle.monitor.proofs.Starting.{is-accepted, not-accepted, accepted-row}
 use Rattle.promise.specs.Replay.{callsIn}
 use Rattle.promise.proofs.Box.{box-promise}
 use Rattle.playback.specs.Playback.{Played, playable, Replays}
@@ -44,15 +48,30 @@ module _ (planText policyText words before : List ℕ) (v : Verdict) (s : State)
   unfolding started startOn
   begun a = w .1 ∙ ap (λ (v : Verdict). startOn v (readPlan planText .plan)) (sym (w .0) ∙ a)
 
-  pub replays-so : not g ≡ false → (n : ℕ) → n ≡ min (length words / 3) (length before) → (s′ : State) (after : List ℕ)
-      → Played (machineOf s) n words before (machineOf s′) after → Replays planText policyText words before v n s′ after
-  unfolding playable
-  replays-so h n en s′ after p =
+  -- The row of the started plan stands for it.
+  same-plan : v ≡ Accepted → (row : List ℕ) → row ≡ rowOfPlan (s .plan) → length (s .plan .templates) ≡ 64 → planFor row ≡ s .plan
+  unfolding start machineOf machineFrom
+  same-plan a row er sized =
+      ap planFor (er ∙ ap rowOfPlan read)
+      ∙ accepted-row planText policyText (sym (w .0) ∙ a) (subst (λ (p : Plan). length (p .templates) ≡ 64) read sized) ∙ sym read
+    where
+      read : s .plan ≡ readPlan planText .plan
+      read = ap (λ (m : Machine). m .plan) (begun a)
+
+  pub replays-so : not g ≡ false → (row : List ℕ) → row ≡ rowOfPlan (s .plan) → length (s .plan .templates) ≡ 64
+      → (n : ℕ) → n ≡ min (length words / 3) (length before) → (next live : ℕ) (d : Cells) (after : List ℕ)
+      → Played (machineFrom (planFor row) (s .next) (s .live) (cellsOf s)) n words before (machineFrom (planFor row) next live d) after
+      → Replays planText policyText words before v n (rebuilt s next live d) after
+  unfolding playable machineOf
+  replays-so h row er sized n en next live d after p =
       let a : v ≡ Accepted = is-accepted v (sym eg ∙ not-false g h) in
+      let q : Played (machineOf s) n words before (machineOf (rebuilt s next live d)) after =
+      subst (λ (plan : Plan). Played (machineFrom plan (s .next) (s .live) (cellsOf s)) n words before (machineFrom plan next live d) after)
+      (same-plan a row er sized) p in
       record {
         judged = w .0;
         counted = en ∙ ap (λ (v : Verdict). playable v (length words) (length before)) (sym a);
-        played = λ a. subst (λ (m : Machine). Played m n words before (machineOf s′) after) (begun a) p;
+        played = λ a. subst (λ (m : Machine). Played m n words before (machineOf (rebuilt s next live d)) after) (begun a) q;
         promised = λ a. box-promise planText policyText (sym (w .0) ∙ a) (callsIn n words);
         untouched = λ o. absurd (o a);
       }

@@ -1,11 +1,11 @@
-// A list of calls, three words each: on lent arrays, and from the two texts.
+// A list of calls, three words each: on a lent row and lent arrays, and from the two texts.
 use machine::Answer;
 use machine::State;
-use plan::Plan;
 use rules::Verdict;
 ghost use mathlib.Core.Path.{_≡_};
 ghost use Prim.Native.Nat.{_≤_, _*_, _/_, min};
 ghost use lib.ListN.{length};
+ghost use Rattle.planrow.specs.Lookup.{planFor};
 ghost use Rattle.machine.specs.Machine.{boxLimits, run};
 ghost use Rattle.machine.specs.State.{machineFrom};
 ghost use Rattle.population.specs.Arrays.{cells};
@@ -48,7 +48,7 @@ pub fn code_of(answer: Answer) -> u8
 
 // One call.
 fn take_call<'a>(
-    plan: Plan,
+    row: &'a [u32; 514],
     next: u32,
     live: usize,
     serials: &'a mut [u32; 128],
@@ -62,10 +62,10 @@ fn take_call<'a>(
     ensures { λ r.
         let c = cells (now (serials .entry)) (now (templates .entry)) (now (labels .entry)) (now (tags .entry)) in
         let d = cells (now (serials .exit)) (now (templates .exit)) (now (labels .exit)) (now (tags .exit)) in
-        ⌜ Took (machineFrom plan (r .next) (r .live) d) (r .code) (run boxLimits (machineFrom plan next live c) (callOf kind x y)) ⌝ }
+        ⌜ Took (machineFrom (planFor (now (row .entry))) (r .next) (r .live) d) (r .code) (run boxLimits (machineFrom (planFor (now (row .entry))) next live c) (callOf kind x y)) ⌝ }
 {
     if kind == STEP {
-        let r = stepping::step(plan, next, live, serials, templates, labels, tags, x, y);
+        let r = stepping::step(row, next, live, serials, templates, labels, tags, x, y);
         let answer = r.answer;
         return Taken {
             code: code_of(answer),
@@ -74,7 +74,7 @@ fn take_call<'a>(
         };
     }
     if kind == SEND {
-        let answer = delivery::send(plan, next, live, serials, templates, labels, tags, x, y);
+        let answer = delivery::send(row, next, live, serials, templates, labels, tags, x, y);
         return Taken {
             code: code_of(answer),
             next: next,
@@ -82,14 +82,14 @@ fn take_call<'a>(
         };
     }
     if kind == RAISE {
-        let answer = labelling::raise(plan, next, live, serials, templates, labels, tags, x, y);
+        let answer = labelling::raise(row, next, live, serials, templates, labels, tags, x, y);
         return Taken {
             code: code_of(answer),
             next: next,
             live: live,
         };
     }
-    let answer = labelling::lower(plan, next, live, serials, templates, labels, tags, x, y);
+    let answer = labelling::lower(row, next, live, serials, templates, labels, tags, x, y);
     Taken {
         code: code_of(answer),
         next: next,
@@ -107,7 +107,7 @@ pub fn call_count(words: usize, places: usize) -> usize
 
 // The calls in order, as many as there are words and places for.
 pub fn run_calls<'a>(
-    plan: Plan,
+    row: &'a [u32; 514],
     next: u32,
     live: usize,
     serials: &'a mut [u32; 128],
@@ -120,7 +120,7 @@ pub fn run_calls<'a>(
     ensures { λ r.
         let c = cells (now (serials .entry)) (now (templates .entry)) (now (labels .entry)) (now (tags .entry)) in
         let d = cells (now (serials .exit)) (now (templates .exit)) (now (labels .exit)) (now (tags .exit)) in
-        ⌜ (r .count ≡ min (length (now (calls .entry)) / 3) (length (now (answers .entry)))) × Played (machineFrom plan next live c) (r .count) (now (calls .entry)) (now (answers .entry)) (machineFrom plan (r .next) (r .live) d) (now (answers .exit)) ⌝ }
+        ⌜ (r .count ≡ min (length (now (calls .entry)) / 3) (length (now (answers .entry)))) × Played (machineFrom (planFor (now (row .entry))) next live c) (r .count) (now (calls .entry)) (now (answers .entry)) (machineFrom (planFor (now (row .entry))) (r .next) (r .live) d) (now (answers .exit)) ⌝ }
 {
     let n = call_count(calls.len(), answers.len());
     let mut z = next;
@@ -128,7 +128,7 @@ pub fn run_calls<'a>(
     let mut i: usize = 0;
     while i < n {
         let r = take_call(
-            plan,
+            row,
             z,
             l,
             serials,
@@ -179,12 +179,13 @@ pub fn replay<'a>(
         };
     }
     let read = state.plan;
+    let row = planrow::row_of(read);
     let mut serials = state.serials;
     let mut templates = state.templates;
     let mut labels = state.labels;
     let mut tags = state.tags;
     let r = run_calls(
-        read,
+        &row,
         state.next,
         state.live,
         &mut serials,

@@ -24,21 +24,6 @@ use Rattle.machine.proofs.Places.{rising-places}
 use Rattle.machine.proofs.Templates.{successors-fit}
 use Rattle.population.specs.Arrays.{cells, arraysFit}
 
--- ---- a template's successors
-
--- The code's test asks of those that are there.
-all-listed : (p : ℕ → Bool) (n y z : ℕ) → ((ltb n 1 || p y) && (ltb n 2 || p z)) ≡ all p (listFor n y z)
-unfolding all
-all-listed p zero y z = refl
-all-listed p (suc zero) y z = refl
-all-listed p (suc (suc n)) y z =
-    rw (le-ltb (suc (suc n)) 1 (omega arith), le-ltb (suc (suc n)) 2 (omega arith)) (ap (λ (b : Bool). p y && b) (sym (and-true (p z))))
-
-pub successors-gathered : (n k y z : ℕ) (ys : List ℕ) (a b : Bool) → listFor k y z ≡ ys → a ≡ ltb y n → b ≡ ltb z n
-    → ((ltb k 1 || a) && (ltb k 2 || b)) ≡ all (λ Y. ltb Y n) ys
-successors-gathered n k y z ys a b e ea eb =
-    ap₂ (λ (a b : Bool). (ltb k 1 || a) && (ltb k 2 || b)) ea eb ∙ all-listed (λ Y. ltb Y n) k y z ∙ ap (all (λ Y. ltb Y n)) e
-
 -- ---- a loop that gathers the test of a callee
 
 pub gathered-more : (n : ℕ) (p : ℕ → Bool) (b r : Bool) → b ≡ every n p → r ≡ p n → (b && r) ≡ every (n + 1) p
@@ -91,7 +76,7 @@ module _ (plan : Plan) (next live : ℕ) (c : Cells) where
   unfolding populationFits arraysFit
   population-arrays = ap₂ _&&_ (ap (λ (n : ℕ). leb n 128) length-processes) (ap₂ _&&_ rising-arrays processes-arrays)
 
-  fits-arrays : Fits w32 next → wellFormed boxLimits (machineFrom plan next live c) ≡ (planFits plan && (leb live 128 && arraysFit (plan .count) M next live c))
+  pub fits-arrays : Fits w32 next → wellFormed boxLimits (machineFrom plan next live c) ≡ (planFits plan && (leb live 128 && arraysFit (plan .count) M next live c))
   unfolding wellFormed machineFrom
   fits-arrays h =
       ap (λ (b : Bool). planFits plan && b)
@@ -104,50 +89,10 @@ unfolding planFits
 plan-few plan e =
     leb-true (plan .identifiers) 32 (and-right (leb (plan .count) 64) _ (and-right (ltb 0 (plan .count)) _ (and-left (ltb 0 (plan .count) && (leb (plan .count) 64 && leb (plan .identifiers) 32)) _ e)))
 
-plan-count : (plan : Plan) → planFits plan ≡ true → plan .count ≤ 64
+pub fitting-count : (plan : Plan) → planFits plan ≡ true → plan .count ≤ 64
 unfolding planFits
-plan-count plan e =
+fitting-count plan e =
     leb-true (plan .count) 64 (and-left (leb (plan .count) 64) _ (and-right (ltb 0 (plan .count)) _ (and-left (ltb 0 (plan .count) && (leb (plan .count) 64 && leb (plan .identifiers) 32)) _ e)))
-
-module _ (plan : Plan) where
-  pub plan-empty : plan .count < 1 → false ≡ planFits plan
-  unfolding planFits
-  plan-empty h = sym (rw (le-ltb 0 (plan .count) (omega arith)))
-
-  pub plan-long : 1 ≤ plan .count → 64 < plan .count → false ≡ planFits plan
-  unfolding planFits
-  plan-long l h = sym (rw (lt-ltb 0 (plan .count) (omega arith), lt-leb (plan .count) 64 h))
-
-  pub plan-wide : 1 ≤ plan .count → plan .count ≤ 64 → 32 < plan .identifiers → false ≡ planFits plan
-  unfolding planFits
-  plan-wide l k h = sym (rw (lt-ltb 0 (plan .count) (omega arith), le-leb (plan .count) 64 k, lt-leb (plan .identifiers) 32 h))
-
-  pub plan-templates : 1 ≤ plan .count → plan .count ≤ 64 → plan .identifiers ≤ 32
-      → (r : Bool) → r ≡ every (plan .count) (λ X. templateFits (plan .count) (plan .identifiers) (at plan X)) → r ≡ planFits plan
-  unfolding planFits
-  plan-templates l k h r e = e ∙ sym (rw (lt-ltb 0 (plan .count) (omega arith), le-leb (plan .count) 64 k, le-leb (plan .identifiers) 32 h))
-
-module _ (plan : Plan) (g : Bool) (e : g ≡ planFits plan) where
-  pub fit-identifiers : not g ≡ false → plan .identifiers ≤ 32
-  fit-identifiers h = plan-few plan (sym e ∙ not-false g h)
-
-  pub fit-count : not g ≡ false → plan .count < 256
-  fit-count h = let q = plan-count plan (sym e ∙ not-false g h) in omega arith
-
-  module _ (next live : ℕ) (c : Cells) (small : Fits w32 next) where
-    abbrev rest : Bool
-    rest = arraysFit (plan .count) (plan .identifiers) next live c
-
-    pub bad-plan : not g ≡ true → false ≡ wellFormed boxLimits (machineFrom plan next live c)
-    bad-plan h = sym (fits-arrays plan next live c small ∙ ap (λ (b : Bool). b && (leb live 128 && rest)) (sym e ∙ not-true g h))
-
-    pub bad-many : not g ≡ false → 128 < live → false ≡ wellFormed boxLimits (machineFrom plan next live c)
-    bad-many h l = sym (fits-arrays plan next live c small ∙ ap₂ (λ (a b : Bool). a && (b && rest)) (sym e ∙ not-false g h) (lt-leb live 128 l))
-
-    pub fit-arrays : not g ≡ false → live ≤ 128 → (r : Bool) → r ≡ arraysFit (plan .count) (plan .identifiers) next live c
-        → r ≡ wellFormed boxLimits (machineFrom plan next live c)
-    fit-arrays h l r er =
-        er ∙ sym (fits-arrays plan next live c small ∙ ap₂ (λ (a b : Bool). a && (b && rest)) (sym e ∙ not-false g h) (le-leb live 128 l))
 
 at-most : (x t w : ℕ) → t + 1 ≡ w → leb x t ≡ ltb x w
 at-most x t w e =
@@ -187,7 +132,7 @@ module _ (plan : Plan) (next live : ℕ) (c : Cells) (e : wellFormed boxLimits (
   unfolding planFits
   formed-count = (
     ltb-true 0 (plan .count) (and-left (ltb 0 (plan .count)) _ (and-left (ltb 0 (plan .count) && (leb (plan .count) 64 && leb (plan .identifiers) 32)) _ formed-plan)),
-    plan-count plan formed-plan,
+    fitting-count plan formed-plan,
   )
 
   pub formed-template : (k : ℕ) → k < live → getD (c .templates) k 0 < plan .count
@@ -201,7 +146,7 @@ module _ (plan : Plan) (next live : ℕ) (c : Cells) (e : wellFormed boxLimits (
       (and-right (leb live 128) _ (sym (population-arrays plan next live c) ∙ formed-population))))) k h)
 
   pub formed-successors : (X : ℕ) → X < plan .count → all (λ Y. ltb Y (plan .count)) (successors (at plan X .form)) ≡ true
-  formed-successors = successors-fit plan formed-plan
+  formed-successors X h = successors-fit plan formed-plan X h
 
   pub formed-rising : rising (map (λ p. p .serial) (processesOf (plan .identifiers) live c)) ≡ true
   unfolding populationFits

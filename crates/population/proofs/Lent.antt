@@ -13,7 +13,7 @@ use Rattle.lists.proofs.Lowest.{lowest-holds}
 use Rattle.plan.specs.declared.Plan.{Plan}
 use Rattle.machine.specs.declared.Answer.{Answer}
 use Rattle.machine.specs.declared.Answer.the-variants.{Done, Refused}
-use Rattle.machine.specs.Machine.{Machine, Outcome, Call, boxLimits, wellFormed, find, rising, settled, ifDone, refuseIf, answerTo, run}
+use Rattle.machine.specs.Machine.{Machine, Outcome, Call, boxLimits, planFits, wellFormed, find, rising, settled, ifDone, refuseIf, answerTo, run}
 use Rattle.machine.specs.State.{Cells, placed, processesOf, machineFrom}
 use Rattle.machine.proofs.Places.{find-live, find-gone, places-differ}
 use Rattle.machine.specs.State.{ifRefused}
@@ -67,6 +67,12 @@ module _ (plan : Plan) (next live : ℕ) (c : Cells) (g : Bool) (eg : g ≡ well
   pub run-formed : (call : Call) → not g ≡ false → run boxLimits (machineFrom plan next live c) call ≡ answerTo boxLimits (machineFrom plan next live c) call
   unfolding run
   run-formed call h = rw (sym eg ∙ not-false g h)
+
+-- A plan that does not fit makes every call 20.
+pub run-unfit : (plan : Plan) (next live : ℕ) (c : Cells) (call : Call) → planFits plan ≡ false
+    → run boxLimits (machineFrom plan next live c) call ≡ outcomeFrom (Refused 20) plan next live c
+unfolding run wellFormed settled ifDone machineFrom
+run-unfit plan next live c call f = rw f
 
 module _ (M live : ℕ) (c : Cells) (s k : ℕ) (ek : k ≡ lowest live (λ i. eqb (getD (c .serials) i 0) s)) where
   pub found-none : live ≤ k → find s (processesOf M live c) ≡ none

@@ -26,10 +26,6 @@ arraysFit N M next live c =
 unfoldable pub shifted : List ℕ → ℕ → ℕ → ℕ → ℕ → ℕ
 shifted xs from to by j = cond (leb from j && ltb j to) (getD xs (j + by) 0) (getD xs j 0)
 
--- At the n places from `from` on stands what f says, and elsewhere what stood there.
-unfoldable pub written : List ℕ → ℕ → ℕ → (ℕ → ℕ) → ℕ → ℕ
-written xs from n f j = cond (leb from j && ltb j (from + n)) (f (j - from)) (getD xs j 0)
-
 -- Tag i of a child whose template creates the identifiers of a mask.
 unfoldable pub childTag : ℕ → ℕ → ℕ → ℕ → ℕ
 childTag serial creates parent i = cond (has i creates) serial parent

@@ -1,17 +1,17 @@
-// The arrays that hold the live processes: the test of refusal 20, where a serial stands, and the loops that read and
+// The plan's row and the arrays that hold the live processes: the test of refusal 20, where a serial stands, and the loops that read and
 // write a row of tags. No test here leaves a loop early, so that they run on vectors.
-use plan::Form;
-use plan::Plan;
-use plan::Template;
 ghost use mathlib.Core.Path.{_≡_};
 ghost use Prim.Native.Nat.{ℕ, _<_, _≤_, _+_, _-_, _*_, _^_, min};
 ghost use lib.ListN.{getD, length};
 ghost use lib.Dec.{ltb, eqb, leb};
 ghost use Rattle.lists.specs.Numbers.{every, all, lowest, tabulate};
-ghost use Rattle.plan.specs.Plan.{at, successors};
+ghost use Rattle.plan.specs.Plan.{successors};
+ghost use Rattle.planrow.specs.Row.{formOf, templateIn};
+ghost use Rattle.planrow.specs.Lookup.{planFor};
 ghost use Rattle.machine.specs.Machine.{boxLimits, templateFits, planFits, wellFormed};
 ghost use Rattle.machine.specs.State.{machineFrom};
-ghost use Rattle.population.specs.Arrays.{cells, arraysFit, shifted, written, childTag};
+ghost use Rattle.lists.specs.Writes.{written};
+ghost use Rattle.population.specs.Arrays.{cells, arraysFit, shifted, childTag};
 
 // Document 01's numbers of the refusals of step, send, raise and lower.
 pub const BAD_STATE: u8 = 20;
@@ -139,69 +139,61 @@ pub fn row_start(place: u32, m: u32) -> usize
     (place as usize) * (m as usize)
 }
 
-fn below(y: u8, n: usize) -> bool
-    ensures { λ r. ⌜ r ≡ ltb y n ⌝ }
-{
-    (y as usize) < n
-}
-
 fn wide(x: u32) -> u64
     ensures { λ r. ⌜ r ≡ x ⌝ }
 {
     x as u64
 }
 
-// Document 01, 20: whether no "plan's successor" is "not below N".
-fn successors_fit(form: Form, n: usize) -> bool
-    ensures { λ r. ⌜ r ≡ all (λ Y. ltb Y n) (successors form) ⌝ }
+// Document 01, 20: whether no "plan's successor" is "not below N", of a form by its number.
+fn successors_fit(number: u32, y: u32, z: u32, n: u32) -> bool
+    ensures { λ r. ⌜ r ≡ all (λ Y. ltb Y n) (successors (formOf number y z)) ⌝ }
 {
-    let s = plan::successors_of(form);
-    ((s.count < 1) | below(s.first, n)) & ((s.count < 2) | below(s.second, n))
+    ((number < 1) | (y < n)) & ((number < 2) | (z < n))
 }
 
-fn template_fits(t: Template, n: usize, m: u32) -> bool
-    requires { ⌜ m ≤ 32 ⌝ }
-    ensures { λ r. ⌜ r ≡ templateFits n m t ⌝ }
+// Whether the template of the words at x fits n templates and m identifiers.
+fn template_fits(row: &[u32; 514], x: usize, n: u32, m: u32) -> bool
+    requires { ⌜ (x < 64) × (m ≤ 32) ⌝ }
+    ensures { λ r. ⌜ r ≡ templateFits n m (templateIn (now (row .entry)) x) ⌝ }
 {
-    let form = t.form;
+    let at = 2 + 8 * x;
     let bound = mask_count(m);
-    successors_fit(form, n)
-        & ((wide(t.lab) < bound)
-            & ((wide(t.pos) < bound) & ((wide(t.neg) < bound) & (wide(t.creates) < bound))))
+    successors_fit(row[at], row[at + 1], row[at + 2], n)
+        & ((wide(row[at + 3]) < bound)
+            & ((wide(row[at + 4]) < bound)
+                & ((wide(row[at + 5]) < bound) & (wide(row[at + 6]) < bound))))
 }
 
-fn templates_fit(plan: Plan) -> bool
-    requires { ⌜ (plan .count ≤ 64) × (plan .identifiers ≤ 32) ⌝ }
-    ensures { λ r. ⌜ r ≡ every (plan .count) (λ X. templateFits (plan .count) (plan .identifiers) (at plan X)) ⌝ }
+fn templates_fit(row: &[u32; 514], n: u32, m: u32) -> bool
+    requires { ⌜ (n ≤ 64) × (m ≤ 32) ⌝ }
+    ensures { λ r. ⌜ r ≡ every n (λ X. templateFits n m (templateIn (now (row .entry)) X)) ⌝ }
 {
-    let n = plan.count;
-    let m = plan.identifiers;
     let mut fits = true;
-    let mut i: usize = 0;
+    let mut i: u32 = 0;
     while i < n {
-        let t = plan.templates[i];
-        fits = fits & template_fits(t, n, m);
+        fits = fits & template_fits(row, i as usize, n, m);
         i += 1;
     }
     fits
 }
 
-// Document 01, 20: "a count [..] passed", and the plan's part of the rest.
-fn plan_fits(plan: Plan) -> bool
-    ensures { λ r. ⌜ r ≡ planFits plan ⌝ }
+// Document 01, 20: "a count [..] passed", and the plan's part of the rest. A row that means no plan has none that fits.
+fn plan_fits(row: &[u32; 514]) -> bool
+    ensures { λ r. ⌜ r ≡ planFits (planFor (now (row .entry))) ⌝ }
 {
-    let n = plan.count;
-    let m = plan.identifiers;
-    if n < 1 {
+    if !planrow::is_plan(row) {
         return false;
     }
-    if 64 < n {
+    let n = row[0];
+    let m = row[1];
+    if n < 1 {
         return false;
     }
     if 32 < m {
         return false;
     }
-    templates_fit(plan)
+    templates_fit(row, n, m)
 }
 
 // The processes' part of refusal 20.
@@ -230,7 +222,7 @@ fn arrays_fit<'a>(
 
 // Whether what these stand for is no bad state: refusal 20, on the whole of it.
 pub fn is_well_formed<'a>(
-    plan: Plan,
+    row: &'a [u32; 514],
     next: u32,
     live: usize,
     serials: &'a [u32; 128],
@@ -240,24 +232,17 @@ pub fn is_well_formed<'a>(
 ) -> bool
     ensures { λ r.
         let c = cells (now (serials .entry)) (now (templates .entry)) (now (labels .entry)) (now (tags .entry)) in
-        ⌜ r ≡ wellFormed boxLimits (machineFrom plan next live c) ⌝ }
+        ⌜ r ≡ wellFormed boxLimits (machineFrom (planFor (now (row .entry))) next live c) ⌝ }
 {
-    if !plan_fits(plan) {
+    if !plan_fits(row) {
         return false;
     }
     if 128 < live {
         return false;
     }
-    arrays_fit(
-        plan.count as u8,
-        plan.identifiers,
-        next,
-        live,
-        serials,
-        templates,
-        labels,
-        tags,
-    )
+    let n = row[0];
+    let m = row[1];
+    arrays_fit(n as u8, m, next, live, serials, templates, labels, tags)
 }
 
 // How many are left of n without the last `by`.

@@ -1,7 +1,7 @@
 -- The whole step: the parts are the machine's.
 use Prim.Native.Nat.{ℕ, zero, suc, _+_, _-_, _*_, _≤_, _<_}
 use mathlib.Core.Path.{_≡_, refl, sym, ap, ap₂, _∙_, subst}
-use mathlib.Core.Bool.{Bool, true, false, not, _&&_, and-true}
+use mathlib.Core.Bool.{Bool, true, false, not, _&&_, and-true, cond}
 use mathlib.Core.List.{List, [], _∷_, _++_}
 use mathlib.Core.Option.{some}
 use native.Mathlib.Numerals.{add-one}
@@ -17,8 +17,10 @@ use Rattle.plan.specs.declared.Form.{Form}
 use Rattle.plan.specs.declared.Plan.{Plan}
 use Rattle.plan.specs.declared.Template.{Template}
 use Rattle.plan.specs.declared.Successors.{Successors}
-use Rattle.plan.specs.Plan.{at, creates}
+use Rattle.plan.specs.declared.Form.the-variants.{End, Go, Either, Both}
+use Rattle.plan.specs.Plan.{at, creates, successors}
 use Rattle.plan.specs.Listed.{listFor, listed}
+use Rattle.planrow.specs.Lookup.{planFor, templateAt}
 use Rattle.machine.specs.declared.Answer.{Answer}
 use Rattle.machine.specs.declared.Answer.the-variants.{Done, Refused}
 use Rattle.machine.specs.Machine.{Process, step, boxLimits, wellFormed, tag, remove, refuseIf, branchFits, children, mayBecome, child, spawn, stepAnswer, stepped, stepBy, answerTo, run}
@@ -29,6 +31,7 @@ use Rattle.population.specs.Arrays.{childTag}
 use Rattle.machine.specs.State.{ifRefused}
 use Rattle.population.specs.Lent.{Same, Did, answerFor}
 use Rattle.population.proofs.Fits.{length-processes, formed-live, formed-plan, formed-count, formed-template, formed-successors, plan-few}
+use Rattle.population.proofs.RowFits.{formed-identifiers, formed-lookup}
 use Rattle.population.proofs.Lent.{did-refused, did-same, settled-refused, settled-done, run-bad, run-formed, found-none, found-some, found-serial, alone}
 use Rattle.stepping.specs.declared.Stepped.{Stepped}
 use Rattle.stepping.specs.Stepping.{fitting, allFitting, refusalOf, skipping, newborn, newborns, stays, Room, Advanced}
@@ -107,7 +110,7 @@ module _ (plan : Plan) (next live : ℕ) (c : Cells) (k branch : ℕ) (well : we
             (refuseIf (not fits) 25
             Done)))
 
-    pub step-refused : (r : Stepped) → (q ≡ 0 → ⊥) → r ≡ stays q next live
+    step-refused : (r : Stepped) → (q ≡ 0 → ⊥) → r ≡ stays q next live
         → Did plan next live c (r .answer) (r .next) (r .live) c (stepBy boxLimits (machineFrom plan next live c) (getD (c .serials) k 0) branch (some (placed (plan .identifiers) c k)))
     unfolding stepBy machineFrom placed
     step-refused r n er =
@@ -118,10 +121,10 @@ module _ (plan : Plan) (next live : ℕ) (c : Cells) (k branch : ℕ) (well : we
         numbered zero n = absurd (n refl)
         numbered (suc q) n = refl
 
-    pub step-room : q ≡ 0 → Room (plan .identifiers) next live k (heirs .count)
+    step-room : q ≡ 0 → Room (plan .identifiers) next live k (heirs .count)
     step-room z = room-left M next live (getD (c .labels) k 0) (t .form) branch (heirs .count) first second q k eq z (plan-few plan (formed-plan plan next live c well)) h (formed-live plan next live c well) few
 
-    pub step-done : (r : Stepped) (d : Cells) → q ≡ 0 → Advanced (plan .identifiers) next live c k heirs first second r d
+    step-done : (r : Stepped) (d : Cells) → q ≡ 0 → Advanced (plan .identifiers) next live c k heirs first second r d
         → Did plan next live c (r .answer) (r .next) (r .live) d (stepBy boxLimits (machineFrom plan next live c) (getD (c .serials) k 0) branch (some (placed (plan .identifiers) c k)))
     unfolding stepBy stepped machineFrom placed ifRefused
     step-done r d z w = record {
@@ -183,36 +186,59 @@ unfolding all
 all-next n [] h e = h
 all-next n (y ∷ ys) h e = all-head n ys h (and-right (ltb y n) _ e)
 
--- What the state gives where the arrays are reached into.
-module _ (plan : Plan) (next live : ℕ) (c : Cells) (k : ℕ) (well : wellFormed boxLimits (machineFrom plan next live c) ≡ true) (h : k < live) where
+-- ---- the step as the code meets it, the templates being looked up in the row
+
+module _ (row : List ℕ) (next live : ℕ) (c : Cells) (k : ℕ) (well : wellFormed boxLimits (machineFrom (planFor row) next live c) ≡ true) (h : k < live) where
   pub at-place : k < 128
-  at-place = let l = formed-live plan next live c well in omega arith
-
-  pub at-template : getD (c .templates) k 0 < 64
-  at-template = let l = formed-template plan next live c well k h in let f = formed-count plan next live c well .1 in omega arith
-
-  pub at-cast : Fits w64 (getD (c .templates) k 0)
-  at-cast = let l = at-template in omega arith
-
-  pub at-scaled : Fits w64 (getD (c .templates) k 0 * 24)
-  at-scaled = let l = at-template in omega arith
-
-  module _ (branch y : ℕ) where
-    fit : all (λ Y. ltb Y (plan .count)) (children (at plan (getD (c .templates) k 0) .form) branch) ≡ true
-    fit = children-fit (plan .count) branch (at plan (getD (c .templates) k 0) .form) (formed-successors plan next live c well (getD (c .templates) k 0) (formed-template plan next live c well k h))
-
-    pub at-first : y ≡ getD (children (at plan (getD (c .templates) k 0) .form) branch) 0 0 → y < 64
-    at-first e =
-        let f = formed-count plan next live c well .1 in
-        let l = all-head (plan .count) (children (at plan (getD (c .templates) k 0) .form) branch) (formed-count plan next live c well .0) fit in omega arith
-
-    pub at-second : y ≡ getD (children (at plan (getD (c .templates) k 0) .form) branch) 1 0 → y < 64
-    at-second e =
-        let f = formed-count plan next live c well .1 in
-        let l = all-next (plan .count) (children (at plan (getD (c .templates) k 0) .form) branch) (formed-count plan next live c well .0) fit in omega arith
+  at-place = let l = formed-live (planFor row) next live c well in omega arith
 
   pub at-offset : Fits w64 (k * 4)
-  at-offset = let l = formed-live plan next live c well in omega arith
+  at-offset = let l = at-place in omega arith
 
-  pub at-identifiers : plan .identifiers ≤ 32
-  at-identifiers = plan-few plan (formed-plan plan next live c well)
+  pub at-identifiers : getD row 1 0 ≤ 32
+  at-identifiers =
+      subst (λ (M : ℕ). M ≤ 32) (formed-identifiers row next live c well) (plan-few (planFor row) (formed-plan (planFor row) next live c well))
+
+  module _ (t : Template) (looked : t ≡ templateAt row (getD (c .templates) k 0)) where
+    found : t ≡ at (planFor row) (getD (c .templates) k 0)
+    found = looked ∙ formed-lookup row next live c well (getD (c .templates) k 0) (formed-template (planFor row) next live c well k h)
+
+    fit : (branch : ℕ) → all (λ Y. ltb Y (planFor row .count)) (children (t .form) branch) ≡ true
+    fit branch =
+        children-fit (planFor row .count) branch (t .form)
+        (ap (λ (t : Template). all (λ Y. ltb Y (planFor row .count)) (successors (t .form))) found
+        ∙ formed-successors (planFor row) next live c well (getD (c .templates) k 0) (formed-template (planFor row) next live c well k h))
+
+    module _ (branch : ℕ) (heirs : Successors) (eh : listed heirs ≡ children (t .form) branch) (few : heirs .count ≤ 2)
+        (ef : heirs .first ≡ getD (children (t .form) branch) 0 0) (es : heirs .second ≡ getD (children (t .form) branch) 1 0)
+        (first second : Template) (l₁ : first ≡ templateAt row (heirs .first)) (l₂ : second ≡ templateAt row (heirs .second))
+        (q : ℕ) (eq : answerFor q ≡ refusalOf (getD row 1 0) next live (getD (c .labels) k 0) (t .form) branch (heirs .count) first second) where
+      below : (y i : ℕ) → y ≡ getD (children (t .form) branch) i 0 → getD (children (t .form) branch) i 0 < planFor row .count → y < planFor row .count
+      below y i e l = subst (λ (y : ℕ). y < planFor row .count) (sym e) l
+
+      e₁ : first ≡ at (planFor row) (heirs .first)
+      e₁ = l₁ ∙ formed-lookup row next live c well (heirs .first) (below (heirs .first) 0 ef (all-head (planFor row .count) (children (t .form) branch) (formed-count (planFor row) next live c well .0) (fit branch)))
+
+      e₂ : second ≡ at (planFor row) (heirs .second)
+      e₂ = l₂ ∙ formed-lookup row next live c well (heirs .second) (below (heirs .second) 1 es (all-next (planFor row .count) (children (t .form) branch) (formed-count (planFor row) next live c well .0) (fit branch)))
+
+      M-is : planFor row .identifiers ≡ getD row 1 0
+      M-is = formed-identifiers row next live c well
+
+      eq′ : answerFor q ≡ refusalOf (planFor row .identifiers) next live (getD (c .labels) k 0) (t .form) branch (heirs .count) first second
+      eq′ = eq ∙ ap (λ (M : ℕ). refusalOf M next live (getD (c .labels) k 0) (t .form) branch (heirs .count) first second) (sym M-is)
+
+      pub place-refused : (r : Stepped) → (q ≡ 0 → ⊥) → r ≡ stays q next live
+          → Did (planFor row) next live c (r .answer) (r .next) (r .live) c (stepBy boxLimits (machineFrom (planFor row) next live c) (getD (c .serials) k 0) branch (some (placed (planFor row .identifiers) c k)))
+      place-refused = step-refused (planFor row) next live c k branch well h t found heirs eh few first second e₁ e₂ q eq′
+
+      pub place-room : q ≡ 0 → Room (getD row 1 0) next live k (heirs .count)
+      place-room z =
+          subst (λ (M : ℕ). Room M next live k (heirs .count)) M-is
+          (step-room (planFor row) next live c k branch well h t found heirs eh few first second e₁ e₂ q eq′ z)
+
+      pub place-done : (r : Stepped) (d : Cells) → q ≡ 0 → Advanced (getD row 1 0) next live c k heirs first second r d
+          → Did (planFor row) next live c (r .answer) (r .next) (r .live) d (stepBy boxLimits (machineFrom (planFor row) next live c) (getD (c .serials) k 0) branch (some (placed (planFor row .identifiers) c k)))
+      place-done r d z w =
+          step-done (planFor row) next live c k branch well h t found heirs eh few first second e₁ e₂ q eq′ r d z
+          (subst (λ (M : ℕ). Advanced M next live c k heirs first second r d) (sym M-is) w)

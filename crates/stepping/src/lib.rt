@@ -1,8 +1,7 @@
-// Document 01, Step, on lent arrays: the process goes, the places above it move down, its children come after all
+// Document 01, Step, on a lent row and lent arrays: the process goes, the places above it move down, its children come after all
 // others.
 use machine::Answer;
 use plan::Form;
-use plan::Plan;
 use plan::Successors;
 use plan::Template;
 ghost use mathlib.Core.Path.{_≡_};
@@ -12,6 +11,7 @@ ghost use Prim.Native.Nat.{_<_, _≤_, _+_};
 ghost use lib.ListN.{getD, length, set};
 ghost use Rattle.lists.specs.Numbers.{tabulate};
 ghost use Rattle.plan.specs.Listed.{listed};
+ghost use Rattle.planrow.specs.Lookup.{planFor};
 ghost use Rattle.machine.specs.Machine.{boxLimits, wellFormed, branchFits, children, stepBy, step, run};
 ghost use Rattle.machine.specs.State.{placed, processesOf, machineFrom};
 ghost use Rattle.population.specs.Arrays.{cells};
@@ -341,9 +341,9 @@ fn advance<'a>(
     finished(next + 2, live + 1)
 }
 
-// The step of the process at place k. Templates are looked up here: a function that looks one up would copy the plan.
+// The step of the process at place k.
 fn step_at<'a>(
-    plan: Plan,
+    row: &'a [u32; 514],
     next: u32,
     live: usize,
     k: usize,
@@ -354,20 +354,20 @@ fn step_at<'a>(
     tags: &'a mut [u32; 4096],
 ) -> Stepped
     requires { let c = cells (now serials) (now templates) (now labels) (now tags) in
-        ⌜ (wellFormed boxLimits (machineFrom plan next live c) ≡ true) × (k < live) ⌝ }
+        ⌜ (wellFormed boxLimits (machineFrom (planFor (now row)) next live c) ≡ true) × (k < live) ⌝ }
     ensures { λ r.
         let c = cells (now (serials .entry)) (now (templates .entry)) (now (labels .entry)) (now (tags .entry)) in
         let d = cells (now (serials .exit)) (now (templates .exit)) (now (labels .exit)) (now (tags .exit)) in
-        ⌜ Did plan next live c (r .answer) (r .next) (r .live) d (stepBy boxLimits (machineFrom plan next live c) (getD (c .serials) k 0) branch (some (placed (plan .identifiers) c k))) ⌝ }
+        ⌜ Did (planFor (now (row .entry))) next live c (r .answer) (r .next) (r .live) d (stepBy boxLimits (machineFrom (planFor (now (row .entry))) next live c) (getD (c .serials) k 0) branch (some (placed (planFor (now (row .entry)) .identifiers) c k))) ⌝ }
 {
-    let x = templates[k];
-    let t = plan.templates[x as usize];
+    let m = row[1];
+    let t = planrow::template_at(row, templates[k]);
     let form = t.form;
     let heirs = children_of(form, branch);
-    let first = plan.templates[heirs.first as usize];
-    let second = plan.templates[heirs.second as usize];
+    let first = planrow::template_at(row, heirs.first);
+    let second = planrow::template_at(row, heirs.second);
     let number = refusal(
-        plan.identifiers,
+        m,
         next,
         live,
         labels[k],
@@ -381,7 +381,7 @@ fn step_at<'a>(
         return refused(number, next, live);
     }
     advance(
-        plan.identifiers,
+        m,
         next,
         live,
         k,
@@ -397,7 +397,7 @@ fn step_at<'a>(
 
 // Document 01, Step: 20, 21, then 22 to 25 for the process found.
 pub fn step<'a>(
-    plan: Plan,
+    row: &'a [u32; 514],
     next: u32,
     live: usize,
     serials: &'a mut [u32; 128],
@@ -410,24 +410,14 @@ pub fn step<'a>(
     ensures { λ r.
         let c = cells (now (serials .entry)) (now (templates .entry)) (now (labels .entry)) (now (tags .entry)) in
         let d = cells (now (serials .exit)) (now (templates .exit)) (now (labels .exit)) (now (tags .exit)) in
-        ⌜ Did plan next live c (r .answer) (r .next) (r .live) d (run boxLimits (machineFrom plan next live c) (step serial branch)) ⌝ }
+        ⌜ Did (planFor (now (row .entry))) next live c (r .answer) (r .next) (r .live) d (run boxLimits (machineFrom (planFor (now (row .entry))) next live c) (step serial branch)) ⌝ }
 {
-    if !population::is_well_formed(plan, next, live, serials, templates, labels, tags) {
+    if !population::is_well_formed(row, next, live, serials, templates, labels, tags) {
         return refused(population::BAD_STATE, next, live);
     }
     let k = population::place_of(serials, live, serial);
     if live <= k {
         return refused(population::NOT_LIVE, next, live);
     }
-    step_at(
-        plan,
-        next,
-        live,
-        k,
-        branch,
-        serials,
-        templates,
-        labels,
-        tags,
-    )
+    step_at(row, next, live, k, branch, serials, templates, labels, tags)
 }

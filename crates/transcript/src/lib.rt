@@ -161,12 +161,13 @@ pub fn print_replay_at<'a>(plan: &'a [u8], policy: &'a [u8], text: &'a [u8], nex
     let verdict = started.verdict;
     let state = started.state;
     let read = state.plan;
+    let row = planrow::row_of(read);
     let mut serials = state.serials;
     let mut templates = state.templates;
     let mut labels = state.labels;
     let mut tags = state.tags;
     let r = playback::run_calls(
-        read,
+        &row,
         next,
         state.live,
         &mut serials,

@@ -1,19 +1,13 @@
 // A list of calls run through the operations by value, to be compared with the same list on lent arrays.
+use machine::Answered;
 use machine::State;
 ghost use mathlib.Core.Path.{_≡_};
 ghost use Prim.Native.Nat.{_/_, min};
 ghost use lib.ListN.{length};
 ghost use Rattle.machine.specs.Machine.{boxLimits, run};
-ghost use Rattle.machine.specs.State.{machineOf};
+ghost use Rattle.machine.specs.State.{machineOf, outcomeOf};
 ghost use Rattle.promise.specs.Replay.{callOf};
-ghost use Rattle.playback.specs.Taking.{Took};
 ghost use Rattle.playback.specs.Playback.{Played};
-
-// The state after one call, and its answer as a number.
-struct Taken {
-    state: State,
-    code: u8,
-}
 
 // The state after a list of calls, and how many there were.
 pub struct Ran {
@@ -21,44 +15,20 @@ pub struct Ran {
     pub count: usize,
 }
 
-// One call.
-fn take_call(state: State, kind: u32, x: u32, y: u32) -> Taken
-    ensures { λ r. ⌜ Took (machineOf (r .state)) (r .code) (run boxLimits (machineOf state) (callOf kind x y)) ⌝ }
+// One call. What the operation hands back goes on as it is: another struct would copy the state once more.
+fn take_call(state: State, kind: u32, x: u32, y: u32) -> Answered
+    ensures { λ r. ⌜ outcomeOf r ≡ run boxLimits (machineOf state) (callOf kind x y) ⌝ }
 {
     if kind == playback::STEP {
-        let stepped = monitor::step(state, x, y);
-        let answer = stepped.answer;
-        let after = stepped.state;
-        return Taken {
-            state: after,
-            code: playback::code_of(answer),
-        };
+        return monitor::step(state, x, y);
     }
     if kind == playback::SEND {
-        let sent = monitor::send(state, x, y);
-        let answer = sent.answer;
-        let after = sent.state;
-        return Taken {
-            state: after,
-            code: playback::code_of(answer),
-        };
+        return monitor::send(state, x, y);
     }
     if kind == playback::RAISE {
-        let raised = monitor::raise(state, x, y);
-        let answer = raised.answer;
-        let after = raised.state;
-        return Taken {
-            state: after,
-            code: playback::code_of(answer),
-        };
+        return monitor::raise(state, x, y);
     }
-    let lowered = monitor::lower(state, x, y);
-    let answer = lowered.answer;
-    let after = lowered.state;
-    Taken {
-        state: after,
-        code: playback::code_of(answer),
-    }
+    monitor::lower(state, x, y)
 }
 
 // The calls in order, as many as there are words and places for.
@@ -71,7 +41,8 @@ pub fn run_calls<'a>(state: State, calls: &'a [u32], answers: &'a mut [u8]) -> R
     while i < n {
         let r = take_call(s, calls[i * 3], calls[i * 3 + 1], calls[i * 3 + 2]);
         s = r.state;
-        answers[i] = r.code;
+        let answer = r.answer;
+        answers[i] = playback::code_of(answer);
         i += 1;
     }
     Ran { state: s, count: n }

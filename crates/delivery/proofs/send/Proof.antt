@@ -1,6 +1,7 @@
 -- The refusals in document order, each by its law; then the message, by the labels and tags at the two places.
 use borrow.Author.Needs.{needs}
-use Rattle.population.proofs.Fits.{few-identifiers, place-few, place-offset}
+use Rattle.population.proofs.Fits.{place-few, place-offset}
+use Rattle.population.proofs.RowFits.{few-words}
 use Rattle.delivery.proofs.Sends.{sent-bad, sent-from-none, sent-to-none, sent-itself, sent-delivered, sent-held}
 use Rattle.delivery.proofs.send.Statement.{statement}
 use Rattle.delivery.proofs.send.Tie as tie
@@ -26,6 +27,9 @@ returns-3 c = search sent-to-none
 returns-4 : tie.Need-returns-4
 returns-4 c = search sent-itself
 
+element-copy-out-m : tie.Need-element-copy-out-m
+element-copy-out-m c = search needs
+
 mul-is-passed : tie.Need-mul-is-passed
 mul-is-passed c = search place-offset
 
@@ -39,7 +43,7 @@ element-copy-out-is-passed-2 : tie.Need-element-copy-out-is-passed-2
 element-copy-out-is-passed-2 c = search place-few
 
 is-passed-requires : tie.Need-is-passed-requires
-is-passed-requires c κs = (search place-few, search place-few, search few-identifiers)
+is-passed-requires c κs = (search place-few, search place-few, search few-words)
 
 returns-5 : tie.Need-returns-5
 returns-5 c = search sent-delivered
@@ -58,6 +62,7 @@ send-spec =
     place-of-requires-2
     returns-3
     returns-4
+    element-copy-out-m
     mul-is-passed
     element-copy-out-is-passed
     mul-is-passed-2

@@ -1,11 +1,11 @@
--- Every answer is 20 where the row means no plan; else what the calls on lent arrays left, its place stored.
-use Rattle.embed.proofs.Answered.{runs-none, run-few, runs-some}
+-- Every answer is 20 where the row means no plan; else what the calls on the lent row and arrays left, its place stored.
 use borrow.Author.Needs.{needs}
+use Rattle.embed.proofs.Answered.{run-none, run-means, run-few, runs-some}
 use Rattle.embed.proofs.monitor_run.Statement.{statement}
 use Rattle.embed.proofs.monitor_run.Tie as tie
 
-read-row-requires : tie.Need-read-row-requires
-read-row-requires c κs = search needs
+is-plan-requires : tie.Need-is-plan-requires
+is-plan-requires c κs = search needs
 
 refuse-all-requires : tie.Need-refuse-all-requires
 refuse-all-requires c κs = search needs
@@ -14,7 +14,7 @@ same-length : tie.Need-same-length
 same-length c = search needs
 
 returns : tie.Need-returns
-returns c = search runs-none
+returns c = search run-none
 
 element-copy-out-next : tie.Need-element-copy-out-next
 element-copy-out-next c = search needs
@@ -41,15 +41,15 @@ returns-2 : tie.Need-returns-2
 returns-2 c =
     let at-run = c .before .before .before .before .before in
     let at-wide = at-run .before .before .before .before .before .before in
-    let at-if = at-wide .before .before .before .before in
-    runs-some _ _ (at-if .before .before .read-row .ensures) (at-if .if1 .left) _ _ _ _ _ _ _ _ _ _ _ _ (c .store .ensures) (at-wide .wide .ensures .0)
+    let at-if = at-wide .before .before .before in
+    runs-some _ _ (run-means _ _ (at-if .before .is-plan .ensures) (at-if .if1 .left)) _ _ _ _ _ _ _ _ _ _ _ _ (c .store .ensures) (at-wide .wide .ensures .0)
     (c .before .narrow .ensures) (at-run .run-calls .ensures .0) (at-run .run-calls .ensures .1)
 
 pub monitor-run-spec : {M : Type 1} → statement M
 monitor-run-spec =
     tie.close
     (tie.spec
-    read-row-requires
+    is-plan-requires
     refuse-all-requires
     same-length
     returns

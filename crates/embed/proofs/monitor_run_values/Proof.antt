@@ -1,6 +1,6 @@
 -- Every answer is 20 where the row means no plan; else what the calls by value left, written back.
-use Rattle.embed.proofs.Answered.{runs-none, values-few, runs-values}
 use borrow.Author.Needs.{needs}
+use Rattle.embed.proofs.Answered.{run-unread, read-some, values-few, runs-values}
 use Rattle.embed.proofs.monitor_run_values.Statement.{statement}
 use Rattle.embed.proofs.monitor_run_values.Tie as tie
 
@@ -14,7 +14,7 @@ same-length : tie.Need-same-length
 same-length c = search needs
 
 returns : tie.Need-returns
-returns c = search runs-none
+returns c = search run-unread
 
 state-of-requires : tie.Need-state-of-requires
 state-of-requires c κs = search needs
@@ -27,7 +27,7 @@ narrow-requires c κs =
     let at-run = c .before .before .before .before in
     let at-state = at-run .before .before in
     let at-if = at-state .before .before .before .before .before .before .before in
-    values-few _ _ (at-if .before .before .read-row .ensures) (at-if .if1 .left) _ _ _ _ (at-state .state-of .ensures) _ _ _ _ (at-run .run-calls .ensures .1)
+    values-few _ _ (read-some _ _ (at-if .before .before .read-row .ensures) (at-if .if1 .left)) _ _ _ _ (at-state .state-of .ensures) _ _ _ _ (at-run .run-calls .ensures .1)
 
 store-requires : tie.Need-store-requires
 store-requires c κs = search needs
@@ -41,7 +41,7 @@ returns-2 c =
     let at-run = at-store .before .before .before .before .before .before in
     let at-state = at-run .before .before in
     let at-if = at-state .before .before .before .before .before .before .before in
-    runs-values _ _ (at-if .before .before .read-row .ensures) (at-if .if1 .left) _ _ _ _ (at-state .state-of .ensures) _ _ _ _ (at-run .run-calls .ensures .1)
+    runs-values _ _ (read-some _ _ (at-if .before .before .read-row .ensures) (at-if .if1 .left)) _ _ _ _ (at-state .state-of .ensures) _ _ _ _ (at-run .run-calls .ensures .1)
     _ _ (at-store .store .ensures) (at-store .before .narrow .ensures) (at-run .run-calls .ensures .0)
 
 pub monitor-run-values-spec : {M : Type 1} → statement M

@@ -1,14 +1,8 @@
--- 20 where the row means no plan; else the answer of the send on lent arrays.
-use Rattle.embed.proofs.Answered.{answers-none, answers-send}
+-- The answer of the send on the lent row and arrays.
 use borrow.Author.Needs.{needs}
+use Rattle.embed.proofs.Answered.{answers-send}
 use Rattle.embed.proofs.monitor_send.Statement.{statement}
 use Rattle.embed.proofs.monitor_send.Tie as tie
-
-read-row-requires : tie.Need-read-row-requires
-read-row-requires c κs = search needs
-
-returns : tie.Need-returns
-returns c = search answers-none
 
 element-copy-out-next : tie.Need-element-copy-out-next
 element-copy-out-next c = search needs
@@ -28,19 +22,17 @@ code-of-requires c κs = search needs
 cast-result : tie.Need-cast-result
 cast-result c = search needs
 
-returns-2 : tie.Need-returns-2
-returns-2 c = search answers-send
+returns : tie.Need-returns
+returns c = search answers-send
 
 pub monitor-send-spec : {M : Type 1} → statement M
 monitor-send-spec =
     tie.close
     (tie.spec
-    read-row-requires
-    returns
     element-copy-out-next
     element-copy-out-live
     wide-requires
     send-requires
     code-of-requires
     cast-result
-    returns-2)
+    returns)

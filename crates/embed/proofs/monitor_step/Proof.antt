@@ -1,14 +1,8 @@
--- 20 where the row means no plan; else what the step on lent arrays did, its place stored.
-use Rattle.embed.proofs.Answered.{answers-none, step-few, answers-step}
+-- What the step on the lent row and arrays did, its place stored.
 use borrow.Author.Needs.{needs}
+use Rattle.embed.proofs.Answered.{step-few, answers-step}
 use Rattle.embed.proofs.monitor_step.Statement.{statement}
 use Rattle.embed.proofs.monitor_step.Tie as tie
-
-read-row-requires : tie.Need-read-row-requires
-read-row-requires c κs = search needs
-
-returns : tie.Need-returns
-returns c = search answers-none
 
 element-copy-out-next : tie.Need-element-copy-out-next
 element-copy-out-next c = search needs
@@ -34,21 +28,17 @@ code-of-requires c κs = search needs
 cast-result : tie.Need-cast-result
 cast-result c = search needs
 
-returns-2 : tie.Need-returns-2
-returns-2 c =
+returns : tie.Need-returns
+returns c =
     let at-narrow = c .before .before in
     let at-step = at-narrow .before .before in
-    let at-wide = at-step .before .before .before .before .before in
-    let at-if = at-wide .before .before .before .before in
-    answers-step _ _ (at-if .before .before .read-row .ensures) (at-if .if1 .left) _ _ _ _ _ _ _ _ _ _ _ (c .before .store .ensures) (at-wide .wide .ensures .0)
+    answers-step _ _ _ _ _ _ _ _ _ _ _ _ (c .before .store .ensures) (at-step .before .before .before .before .before .wide .ensures .0)
     (at-narrow .narrow .ensures) (c .code-of .ensures) (at-step .step .ensures)
 
 pub monitor-step-spec : {M : Type 1} → statement M
 monitor-step-spec =
     tie.close
     (tie.spec
-    read-row-requires
-    returns
     element-copy-out-next
     element-copy-out-live
     wide-requires
@@ -57,4 +47,4 @@ monitor-step-spec =
     store-requires
     code-of-requires
     cast-result
-    returns-2)
+    returns)

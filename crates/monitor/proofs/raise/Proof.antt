@@ -1,16 +1,22 @@
--- What was done on lent arrays, of the labels copied out of the state and put back.
+-- What the raise on lent arrays did, of the arrays copied out of the state and put back.
 use borrow.Author.Needs.{needs}
 use Rattle.machine.specs.State.{machineOf, outcomeOf}
+use Rattle.population.proofs.ByRow.{by-row}
 use Rattle.monitor.proofs.Kept.{kept}
 use Rattle.monitor.proofs.raise.Statement.{statement}
 use Rattle.monitor.proofs.raise.Tie as tie
+
+row-of-requires : tie.Need-row-of-requires
+row-of-requires c κs = search needs
 
 raise-requires : tie.Need-raise-requires
 raise-requires c κs = search needs
 
 returns : tie.Need-returns
 unfolding machineOf outcomeOf
-returns c = (c .raise .ensures .means, kept (c .before .before .before .before .before .before .before .before .args .t1) _ _ _ _ (c .raise .ensures .same))
+returns c =
+    let did = by-row _ _ (c .before .before .before .before .before .before .before .before .before .before .row-of .ensures .0) _ _ _ _ _ _ _ _ (c .raise .ensures) in
+    (did .means, kept (c .before .before .before .before .before .before .before .before .before .before .before .before .args .state) _ _ _ _ (did .same))
 
 pub raise-spec : {M : Type 1} → statement M
-raise-spec = tie.close (tie.spec raise-requires returns)
+raise-spec = tie.close (tie.spec row-of-requires raise-requires returns)

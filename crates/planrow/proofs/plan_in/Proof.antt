@@ -1,6 +1,6 @@
 -- The first i templates stand there (Filling); how many are left falls.
-use borrow.Author.Needs.{needs}
 use Prim.Native.Nat.{_-_}
+use borrow.Author.Needs.{needs}
 use Rattle.planrow.proofs.Rows.{Filling, filling-none, filling-low, filling-test, filling-more, filling-plan}
 use Rattle.planrow.proofs.plan_in.Statement.{statement}
 use Rattle.planrow.proofs.plan_in.Tie as tie
@@ -10,6 +10,9 @@ Inv-loop row templates₀ n i₀ templates i = Filling row n templates i
 
 abbrev μ-loop : tie.MeasureT-loop
 μ-loop row templates₀ n i₀ templates i = n - i
+
+blank-template-requires : tie.Need-blank-template-requires Inv-loop μ-loop
+blank-template-requires c κs = search needs
 
 element-copy-out-wide : tie.Need-element-copy-out-wide Inv-loop μ-loop
 element-copy-out-wide c = search needs
@@ -38,8 +41,8 @@ loop-less c = search needs
 loop-again : tie.Need-loop-again Inv-loop μ-loop
 loop-again c = search filling-more
 
-element-copy-out-t10 : tie.Need-element-copy-out-t10 Inv-loop μ-loop
-element-copy-out-t10 c = search needs
+element-copy-out-t9 : tie.Need-element-copy-out-t9 Inv-loop μ-loop
+element-copy-out-t9 c = search needs
 
 returns : tie.Need-returns Inv-loop μ-loop
 returns c = search filling-plan
@@ -50,6 +53,7 @@ plan-in-spec =
     (tie.spec
     Inv-loop
     μ-loop
+    blank-template-requires
     element-copy-out-wide
     wide-requires
     loop-holds
@@ -59,5 +63,5 @@ plan-in-spec =
     add-i
     loop-less
     loop-again
-    element-copy-out-t10
+    element-copy-out-t9
     returns)

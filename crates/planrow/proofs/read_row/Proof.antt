@@ -8,8 +8,11 @@ use Rattle.planrow.proofs.read_row.Tie as tie
 is-plan-requires : tie.Need-is-plan-requires
 is-plan-requires c κs = search needs
 
+blank-template-requires : tie.Need-blank-template-requires
+blank-template-requires c κs = search needs
+
 returns : tie.Need-returns
-returns c = read-not _ _ _ (c .before .is-plan .ensures) (c .if1 .taken) refl
+returns c = read-not _ _ _ (c .before .before .is-plan .ensures) (c .before .if1 .taken) refl
 
 plan-in-requires : tie.Need-plan-in-requires
 plan-in-requires c κs = search read-means
@@ -18,4 +21,6 @@ returns-2 : tie.Need-returns-2
 returns-2 c = search read-so
 
 pub read-row-spec : {M : Type 1} → statement M
-read-row-spec = tie.close (tie.spec is-plan-requires returns plan-in-requires returns-2)
+read-row-spec =
+    tie.close
+    (tie.spec is-plan-requires blank-template-requires returns plan-in-requires returns-2)

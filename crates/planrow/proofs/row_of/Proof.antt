@@ -1,17 +1,17 @@
--- The words up to j stand there (Writing); how many are left falls.
+-- The words of the first i templates stand there (Writing); how many are left falls.
 use Prim.Native.Nat.{_-_}
 use borrow.Author.Needs.{needs}
 use Rattle.lists.proofs.Length.{length-into}
 use Rattle.plan.specs.Plan.{at}
-use Rattle.planrow.proofs.Rows.{Writing, writing-none, writing-more, writing-all}
+use Rattle.planrow.proofs.Rows.{Writing, writing-none, writing-room, writing-more, writing-all}
 use Rattle.planrow.proofs.row_of.Statement.{statement}
 use Rattle.planrow.proofs.row_of.Tie as tie
 
 abbrev Inv-loop : tie.InvT-loop
-Inv-loop plan row₀ j₀ row j = Writing plan row j
+Inv-loop plan row₀ n i₀ row i = Writing plan n row i
 
 abbrev μ-loop : tie.MeasureT-loop
-μ-loop plan row₀ j₀ row j = 512 - j
+μ-loop plan row₀ n i₀ row i = n - i
 
 count-word-requires : tie.Need-count-word-requires Inv-loop μ-loop
 count-word-requires c κs = search needs
@@ -21,6 +21,12 @@ array-write-row c = search needs
 
 array-write-row-2 : tie.Need-array-write-row-2 Inv-loop μ-loop
 array-write-row-2 c = search needs
+
+capped-requires : tie.Need-capped-requires Inv-loop μ-loop
+capped-requires c κs = search needs
+
+cast-n : tie.Need-cast-n Inv-loop μ-loop
+cast-n c = search needs
 
 loop-holds : tie.Need-loop-holds Inv-loop μ-loop
 loop-holds c = search writing-none
@@ -34,23 +40,20 @@ element-copy-out-t c = search needs
 words-of-requires : tie.Need-words-of-requires Inv-loop μ-loop
 words-of-requires c κs = search needs
 
-mul-row : tie.Need-mul-row Inv-loop μ-loop
-mul-row c = search needs
+slice-aggregate-put-words : tie.Need-slice-aggregate-put-words Inv-loop μ-loop
+slice-aggregate-put-words c = search needs
 
-array-read-row : tie.Need-array-read-row Inv-loop μ-loop
-array-read-row c = search needs
+mul-put-words : tie.Need-mul-put-words Inv-loop μ-loop
+mul-put-words c = search needs
 
-add-row : tie.Need-add-row Inv-loop μ-loop
-add-row c = search needs
+add-put-words : tie.Need-add-put-words Inv-loop μ-loop
+add-put-words c = search needs
 
-mul-row-2 : tie.Need-mul-row-2 Inv-loop μ-loop
-mul-row-2 c = search needs
+put-words-requires : tie.Need-put-words-requires Inv-loop μ-loop
+put-words-requires c κs = search writing-room
 
-array-write-row-3 : tie.Need-array-write-row-3 Inv-loop μ-loop
-array-write-row-3 c = search needs
-
-add-j : tie.Need-add-j Inv-loop μ-loop
-add-j c = search needs
+add-i : tie.Need-add-i Inv-loop μ-loop
+add-i c = search needs
 
 loop-less : tie.Need-loop-less Inv-loop μ-loop
 loop-less c = search needs
@@ -71,16 +74,17 @@ row-of-spec =
     count-word-requires
     array-write-row
     array-write-row-2
+    capped-requires
+    cast-n
     loop-holds
     mul-t
     element-copy-out-t
     words-of-requires
-    mul-row
-    array-read-row
-    add-row
-    mul-row-2
-    array-write-row-3
-    add-j
+    slice-aggregate-put-words
+    mul-put-words
+    add-put-words
+    put-words-requires
+    add-i
     loop-less
     loop-again
     returns)

@@ -1,5 +1,5 @@
 -- Not accepted, what start gave is handed on. Accepted, the calls run from the state that start gave, whose arrays are
--- copied out and put back; the promise is the law of crate promise.
+-- copied out and put back, over the row of its plan; the promise is the law of crate promise.
 use borrow.Author.Needs.{needs}
 use Rattle.machine.specs.State.{machineOf}
 use Rattle.playback.proofs.Replays.{replays-not, replays-so}
@@ -16,6 +16,9 @@ returns : tie.Need-returns
 returns c =
     replays-not _ _ _ _ _ _ (c .before .before .before .start .ensures) _ (c .before .is-accepted .ensures) (c .if1 .taken)
 
+row-of-requires : tie.Need-row-of-requires
+row-of-requires c κs = search needs
+
 run-calls-requires : tie.Need-run-calls-requires
 run-calls-requires c κs = search needs
 
@@ -23,13 +26,13 @@ same-length : tie.Need-same-length
 same-length c = search needs
 
 returns-2 : tie.Need-returns-2
-unfolding machineOf
 returns-2 c =
     let ran = c .before .before in
-    let tested = ran .before .before .before .before .before .before .before .before .before .before .before in
+    let made = ran .before .before .before .before .before .before .before .before .before .before .before in
+    let tested = made .before .before in
     let played = ran .run-calls .ensures in
     replays-so _ _ _ _ _ _ (tested .before .before .before .start .ensures) _ (tested .before .is-accepted .ensures) (tested .if1 .left)
-    _ (played .0) _ _ (played .1)
+    _ (made .row-of .ensures .0) (made .row-of .ensures .1) _ (played .0) _ _ _ _ (played .1)
 
 pub replay-spec : {M : Type 1} → statement M
 replay-spec =
@@ -38,6 +41,7 @@ replay-spec =
     start-requires
     is-accepted-requires
     returns
+    row-of-requires
     run-calls-requires
     same-length
     returns-2)

@@ -3,18 +3,19 @@
 use Prim.Native.Nat.{_-_}
 use borrow.Author.Needs.{needs}
 use Rattle.machine.specs.State.{machineFrom}
+use Rattle.planrow.specs.Lookup.{planFor}
 use Rattle.population.specs.Arrays.{cells}
 use Rattle.playback.proofs.Runs.{callAt, Stands, stands-none, stands-more, played}
 use Rattle.playback.proofs.run_calls.Statement.{statement}
 use Rattle.playback.proofs.run_calls.Tie as tie
 
 abbrev Inv-loop : tie.InvT-loop
-Inv-loop plan next live serials₀ templates₀ labels₀ tags₀ calls answers₀ n z₀ l₀ i₀ serials templates labels tags answers z l i =
-    Stands (machineFrom plan next live (cells serials₀ templates₀ labels₀ tags₀)) (callAt calls) n i answers₀
-    (machineFrom plan z l (cells serials templates labels tags)) answers
+Inv-loop row next live serials₀ templates₀ labels₀ tags₀ calls answers₀ n z₀ l₀ i₀ serials templates labels tags answers z l i =
+    Stands (machineFrom (planFor row) next live (cells serials₀ templates₀ labels₀ tags₀)) (callAt calls) n i answers₀
+    (machineFrom (planFor row) z l (cells serials templates labels tags)) answers
 
 abbrev μ-loop : tie.MeasureT-loop
-μ-loop plan next live serials₀ templates₀ labels₀ tags₀ calls answers₀ n z₀ l₀ i₀ serials templates labels tags answers z l i =
+μ-loop row next live serials₀ templates₀ labels₀ tags₀ calls answers₀ n z₀ l₀ i₀ serials templates labels tags answers z l i =
     n - i
 
 call-count-requires : tie.Need-call-count-requires Inv-loop μ-loop

@@ -4,8 +4,9 @@ use mathlib.Core.Path.{_≡_, refl}
 use native.Mathlib.Omega.{arith}
 use lib.ListN.{getD, length, length-set}
 use borrow.Author.Needs.{needs}
-use Rattle.population.specs.Arrays.{written, childTag}
-use Rattle.population.proofs.Loops.{written-none, written-more}
+use Rattle.lists.specs.Writes.{written}
+use Rattle.lists.proofs.Written.{written-none, written-more}
+use Rattle.population.specs.Arrays.{childTag}
 use Rattle.population.proofs.write_tags.Statement.{statement}
 use Rattle.population.proofs.write_tags.Tie as tie
 

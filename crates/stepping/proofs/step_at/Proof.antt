@@ -1,50 +1,26 @@
 -- The templates looked up are the plan's, their numbers being below N; then a refusal by its number, or the move.
-use mathlib.Core.Path.{refl}
 use borrow.Author.Needs.{needs}
-use Rattle.plan.specs.Plan.{at}
-use Rattle.stepping.proofs.Steps.{step-refused, step-room, step-done, at-place, at-template, at-cast, at-scaled, at-first, at-second, at-offset, at-identifiers}
+use Rattle.stepping.proofs.Steps.{at-place, at-offset, at-identifiers, place-refused, place-room, place-done}
 use Rattle.stepping.proofs.step_at.Statement.{statement}
 use Rattle.stepping.proofs.step_at.Tie as tie
 
-element-copy-out-x : tie.Need-element-copy-out-x
-element-copy-out-x c = search at-place
+element-copy-out-m : tie.Need-element-copy-out-m
+element-copy-out-m c = search needs
 
-cast-t : tie.Need-cast-t
-cast-t c = at-cast _ _ _ _ _ (c .before .pre .0) (c .before .pre .1)
+element-copy-out-template-at : tie.Need-element-copy-out-template-at
+element-copy-out-template-at c = search at-place
 
-mul-t : tie.Need-mul-t
-mul-t c = at-scaled _ _ _ _ _ (c .before .pre .0) (c .before .pre .1)
-
-element-copy-out-t : tie.Need-element-copy-out-t
-element-copy-out-t c = at-template _ _ _ _ _ (c .before .pre .0) (c .before .pre .1)
+template-at-requires : tie.Need-template-at-requires
+template-at-requires c κs = search needs
 
 children-of-requires : tie.Need-children-of-requires
 children-of-requires c κs = search needs
 
-cast-first : tie.Need-cast-first
-cast-first c = search needs
+template-at-requires-2 : tie.Need-template-at-requires-2
+template-at-requires-2 c κs = search needs
 
-mul-first : tie.Need-mul-first
-mul-first c = search needs
-
-element-copy-out-first : tie.Need-element-copy-out-first
-unfolding at
-element-copy-out-first c =
-    let b = c .before .before .before .before in
-    at-first _ _ _ _ _ (b .pre .0) (b .pre .1) _ _ (c .before .children-of .ensures .2)
-
-cast-second : tie.Need-cast-second
-cast-second c = search needs
-
-mul-second : tie.Need-mul-second
-mul-second c = search needs
-
-element-copy-out-second : tie.Need-element-copy-out-second
-unfolding at
-element-copy-out-second c =
-    let made = c .before .before .before in
-    let b = made .before .before .before in
-    at-second _ _ _ _ _ (b .pre .0) (b .pre .1) _ _ (made .children-of .ensures .3)
+template-at-requires-3 : tie.Need-template-at-requires-3
+template-at-requires-3 c κs = search needs
 
 mul-refusal : tie.Need-mul-refusal
 mul-refusal c = search at-offset
@@ -59,47 +35,40 @@ refused-requires : tie.Need-refused-requires
 refused-requires c κs = search needs
 
 returns : tie.Need-returns
-unfolding at
-returns c =
-    let asked = c .before .before in
-    let made = asked .before .before .before .before .before .before in
-    let b = made .before .before .before in
-    step-refused _ _ _ _ _ _ (b .pre .0) (b .pre .1) _ refl _ (made .children-of .ensures .0) (made .children-of .ensures .1) _ _ refl refl
-    _ (asked .refusal .ensures) _ (c .before .if1 .taken) (c .refused .ensures)
+returns c = search place-refused
 
 advance-requires : tie.Need-advance-requires
-unfolding at
 advance-requires c κs =
     let asked = c .before .before .before .before .before in
-    let made = asked .before .before .before .before .before .before in
-    let b = made .before .before .before in
-    step-room _ _ _ _ _ _ (b .pre .0) (b .pre .1) _ refl _ (made .children-of .ensures .0) (made .children-of .ensures .1) _ _ refl refl
-    _ (asked .refusal .ensures) (c .before .before .before .before .if1 .left)
+    let second = asked .before .before in
+    let made = second .before .before in
+    let looked = made .before in
+    let b = looked .before .before .before in
+    let heirs = made .children-of .ensures in
+    place-room _ _ _ _ _ (b .pre .0) (b .pre .1) _ (looked .template-at .ensures) _ _ (heirs .0) (heirs .1) (heirs .2) (heirs .3)
+    _ _ (second .before .template-at2 .ensures) (second .template-at3 .ensures) _ (asked .refusal .ensures) (c .before .before .before .before .if1 .left)
 
 returns-2 : tie.Need-returns-2
-unfolding at
 returns-2 c =
     let asked = c .before .before .before .before .before .before in
-    let made = asked .before .before .before .before .before .before in
-    let b = made .before .before .before in
-    step-done _ _ _ _ _ _ (b .pre .0) (b .pre .1) _ refl _ (made .children-of .ensures .0) (made .children-of .ensures .1) _ _ refl refl
-    _ (asked .refusal .ensures) _ _ (c .before .before .before .before .before .if1 .left) (c .advance .ensures)
+    let second = asked .before .before in
+    let made = second .before .before in
+    let looked = made .before in
+    let b = looked .before .before .before in
+    let heirs = made .children-of .ensures in
+    place-done _ _ _ _ _ (b .pre .0) (b .pre .1) _ (looked .template-at .ensures) _ _ (heirs .0) (heirs .1) (heirs .2) (heirs .3)
+    _ _ (second .before .template-at2 .ensures) (second .template-at3 .ensures) _ (asked .refusal .ensures) _ _ (c .before .before .before .before .before .if1 .left) (c .advance .ensures)
 
 pub step-at-spec : {M : Type 1} → statement M
 step-at-spec =
     tie.close
     (tie.spec
-    element-copy-out-x
-    cast-t
-    mul-t
-    element-copy-out-t
+    element-copy-out-m
+    element-copy-out-template-at
+    template-at-requires
     children-of-requires
-    cast-first
-    mul-first
-    element-copy-out-first
-    cast-second
-    mul-second
-    element-copy-out-second
+    template-at-requires-2
+    template-at-requires-3
     mul-refusal
     element-copy-out-refusal
     refusal-requires

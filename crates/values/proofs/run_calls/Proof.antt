@@ -4,6 +4,7 @@ use Prim.Native.Nat.{_-_}
 use borrow.Author.Needs.{needs}
 use Rattle.machine.specs.State.{machineOf}
 use Rattle.playback.proofs.Runs.{callAt, Stands, stands-none, stands-more, played}
+use Rattle.values.proofs.Values.{took}
 use Rattle.values.proofs.run_calls.Statement.{statement}
 use Rattle.values.proofs.run_calls.Tie as tie
 
@@ -55,6 +56,9 @@ shared-slice-read-take-call-3 c = search needs
 take-call-requires : tie.Need-take-call-requires Inv-loop μ-loop
 take-call-requires c κs = search needs
 
+code-of-requires : tie.Need-code-of-requires Inv-loop μ-loop
+code-of-requires c κs = search needs
+
 slice-write-answers : tie.Need-slice-write-answers Inv-loop μ-loop
 slice-write-answers c = search needs
 
@@ -65,7 +69,9 @@ loop-less : tie.Need-loop-less Inv-loop μ-loop
 loop-less c = search needs
 
 loop-again : tie.Need-loop-again Inv-loop μ-loop
-loop-again c = search stands-more
+loop-again c =
+    let l = c .before .before .before .before .before .before .before in
+    stands-more _ _ _ _ _ _ _ (l .loop .inv) _ _ (search needs) (search needs) (took _ _ _ (c .before .before .take-call .ensures) (c .code-of .ensures))
 
 same-length : tie.Need-same-length Inv-loop μ-loop
 same-length c = search needs
@@ -93,6 +99,7 @@ run-calls-spec =
     mul-take-call-6
     shared-slice-read-take-call-3
     take-call-requires
+    code-of-requires
     slice-write-answers
     add-i
     loop-less
