@@ -54,8 +54,9 @@ pub fn send<'a>(
     to: u32,
 ) -> Answer
     ensures { λ r.
+        let plan = planFor (now (row .entry)) in
         let c = cells (now (serials .entry)) (now (templates .entry)) (now (labels .entry)) (now (tags .entry)) in
-        ⌜ outcomeFrom r (planFor (now (row .entry))) next live c ≡ run boxLimits (machineFrom (planFor (now (row .entry))) next live c) (send from to) ⌝ }
+        ⌜ outcomeFrom r plan next live c ≡ run boxLimits (machineFrom plan next live c) (send from to) ⌝ }
 {
     if !population::is_well_formed(row, next, live, serials, templates, labels, tags) {
         return Answer::Refused(population::BAD_STATE);

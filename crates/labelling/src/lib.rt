@@ -65,9 +65,10 @@ pub fn raise<'a>(
     identifier: u32,
 ) -> Answer
     ensures { λ r.
+        let plan = planFor (now (row .entry)) in
         let c = cells (now (serials .entry)) (now (templates .entry)) (now (labels .entry)) (now (tags .entry)) in
         let d = cells (now (serials .entry)) (now (templates .entry)) (now (labels .exit)) (now (tags .entry)) in
-        ⌜ Did (planFor (now (row .entry))) next live c r next live d (run boxLimits (machineFrom (planFor (now (row .entry))) next live c) (raise serial identifier)) ⌝ }
+        ⌜ Did plan next live c r next live d (run boxLimits (machineFrom plan next live c) (raise serial identifier)) ⌝ }
 {
     if !population::is_well_formed(row, next, live, serials, templates, labels, tags) {
         return Answer::Refused(population::BAD_STATE);
@@ -99,9 +100,10 @@ pub fn lower<'a>(
     identifier: u32,
 ) -> Answer
     ensures { λ r.
+        let plan = planFor (now (row .entry)) in
         let c = cells (now (serials .entry)) (now (templates .entry)) (now (labels .entry)) (now (tags .entry)) in
         let d = cells (now (serials .entry)) (now (templates .entry)) (now (labels .exit)) (now (tags .entry)) in
-        ⌜ Did (planFor (now (row .entry))) next live c r next live d (run boxLimits (machineFrom (planFor (now (row .entry))) next live c) (lower serial identifier)) ⌝ }
+        ⌜ Did plan next live c r next live d (run boxLimits (machineFrom plan next live c) (lower serial identifier)) ⌝ }
 {
     if !population::is_well_formed(row, next, live, serials, templates, labels, tags) {
         return Answer::Refused(population::BAD_STATE);

@@ -60,9 +60,10 @@ fn take_call<'a>(
     y: u32,
 ) -> Taken
     ensures { λ r.
+        let plan = planFor (now (row .entry)) in
         let c = cells (now (serials .entry)) (now (templates .entry)) (now (labels .entry)) (now (tags .entry)) in
         let d = cells (now (serials .exit)) (now (templates .exit)) (now (labels .exit)) (now (tags .exit)) in
-        ⌜ Took (machineFrom (planFor (now (row .entry))) (r .next) (r .live) d) (r .code) (run boxLimits (machineFrom (planFor (now (row .entry))) next live c) (callOf kind x y)) ⌝ }
+        ⌜ Took (machineFrom plan (r .next) (r .live) d) (r .code) (run boxLimits (machineFrom plan next live c) (callOf kind x y)) ⌝ }
 {
     if kind == STEP {
         let r = stepping::step(row, next, live, serials, templates, labels, tags, x, y);
@@ -118,9 +119,10 @@ pub fn run_calls<'a>(
     answers: &'a mut [u8],
 ) -> Place
     ensures { λ r.
+        let plan = planFor (now (row .entry)) in
         let c = cells (now (serials .entry)) (now (templates .entry)) (now (labels .entry)) (now (tags .entry)) in
         let d = cells (now (serials .exit)) (now (templates .exit)) (now (labels .exit)) (now (tags .exit)) in
-        ⌜ (r .count ≡ min (length (now (calls .entry)) / 3) (length (now (answers .entry)))) × Played (machineFrom (planFor (now (row .entry))) next live c) (r .count) (now (calls .entry)) (now (answers .entry)) (machineFrom (planFor (now (row .entry))) (r .next) (r .live) d) (now (answers .exit)) ⌝ }
+        ⌜ (r .count ≡ min (length (now (calls .entry)) / 3) (length (now (answers .entry)))) × Played (machineFrom plan next live c) (r .count) (now (calls .entry)) (now (answers .entry)) (machineFrom plan (r .next) (r .live) d) (now (answers .exit)) ⌝ }
 {
     let n = call_count(calls.len(), answers.len());
     let mut z = next;

@@ -356,9 +356,10 @@ fn step_at<'a>(
     requires { let c = cells (now serials) (now templates) (now labels) (now tags) in
         ⌜ (wellFormed boxLimits (machineFrom (planFor (now row)) next live c) ≡ true) × (k < live) ⌝ }
     ensures { λ r.
+        let plan = planFor (now (row .entry)) in
         let c = cells (now (serials .entry)) (now (templates .entry)) (now (labels .entry)) (now (tags .entry)) in
         let d = cells (now (serials .exit)) (now (templates .exit)) (now (labels .exit)) (now (tags .exit)) in
-        ⌜ Did (planFor (now (row .entry))) next live c (r .answer) (r .next) (r .live) d (stepBy boxLimits (machineFrom (planFor (now (row .entry))) next live c) (getD (c .serials) k 0) branch (some (placed (planFor (now (row .entry)) .identifiers) c k))) ⌝ }
+        ⌜ Did plan next live c (r .answer) (r .next) (r .live) d (stepBy boxLimits (machineFrom plan next live c) (getD (c .serials) k 0) branch (some (placed (plan .identifiers) c k))) ⌝ }
 {
     let m = row[1];
     let t = planrow::template_at(row, templates[k]);
@@ -408,9 +409,10 @@ pub fn step<'a>(
     branch: u32,
 ) -> Stepped
     ensures { λ r.
+        let plan = planFor (now (row .entry)) in
         let c = cells (now (serials .entry)) (now (templates .entry)) (now (labels .entry)) (now (tags .entry)) in
         let d = cells (now (serials .exit)) (now (templates .exit)) (now (labels .exit)) (now (tags .exit)) in
-        ⌜ Did (planFor (now (row .entry))) next live c (r .answer) (r .next) (r .live) d (run boxLimits (machineFrom (planFor (now (row .entry))) next live c) (step serial branch)) ⌝ }
+        ⌜ Did plan next live c (r .answer) (r .next) (r .live) d (run boxLimits (machineFrom plan next live c) (step serial branch)) ⌝ }
 {
     if !population::is_well_formed(row, next, live, serials, templates, labels, tags) {
         return refused(population::BAD_STATE, next, live);
