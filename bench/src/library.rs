@@ -14,7 +14,7 @@ pub fn run_values(m: &mut Monitor, calls: &[u32], answers: &mut [u8]) {
     assert_eq!(played, answers.len());
 }
 
-/// One by one, as a program that embeds the monitor makes them: the plan's row is read at each.
+/// One by one, as a program that embeds the monitor makes them.
 pub fn one_by_one(m: &mut Monitor, calls: &[u32], answers: &mut [u8]) {
     for (call, place) in calls.chunks_exact(3).zip(answers) {
         let answer = match call[0] {

@@ -13,7 +13,7 @@ mod thin;
 mod tuned;
 mod value;
 
-const LEGEND: &str = "core: monitor_run on lent arrays; singly: monitor_step and so on, the row read at each call; by \
+const LEGEND: &str = "core: monitor_run on lent arrays; singly: monitor_step and so on; by \
 value: monitor_run_values. (a) Rust that hands the State through every function by value, (a') only through the \
 operations; (b) Rust over `&mut State`; (c) the same hand-tuned: rows of M tags, no early exit. Steps: live is one less \
 two times in three; mixed lists: one more one time in three.";
