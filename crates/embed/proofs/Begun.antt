@@ -7,6 +7,8 @@ use mathlib.Core.Option.{some}
 use native.Mathlib.Omega.{arith}
 use lib.ListN.{length, getD, replicate}
 use Rattle.lists.specs.Numbers.{tabulate}
+use Rattle.lists.proofs.Length.{getD-same}
+use Rattle.plan.specs.declared.Template.{Template}
 use Rattle.plan.specs.declared.Plan.{Plan}
 use Rattle.plan.specs.Plan.{blank, at}
 use Rattle.text.specs.Reading.{readPlan, noPlan}
@@ -19,14 +21,13 @@ use Rattle.machine.specs.Machine.{Machine, start}
 use Rattle.machine.specs.State.{Cells, processesOf, machineFrom, machineOf, blankState, startOn, started}
 use Rattle.population.proofs.Fits.{length-processes}
 use Rattle.planrow.specs.Row.{planOfRow, rowOfPlan}
-use Rattle.planrow.proofs.Rows.{blanks}
 use Rattle.planrow.proofs.RoundTrip.{row-means}
 use Rattle.monitor.proofs.Starting.{accepted-means}
 use Rattle.embed.specs.Embed.{Held as Memory, held, machineIn, verdictWords, blankHeld, Starts}
 
 at-blank : (X : ℕ) → at noPlan X ≡ blank
 unfolding at
-at-blank X = blanks 64 X
+at-blank X = getD-same Template 64 X blank
 
 -- The blank plan's row means it too.
 blank-means : planOfRow (rowOfPlan noPlan) ≡ some noPlan

@@ -1,5 +1,5 @@
 -- What start hands back, as the code meets it: v is the judge's verdict, and g whether it is accepted.
-use Prim.Native.Nat.{ℕ, zero, suc, _+_, _*_}
+use Prim.Native.Nat.{ℕ, _+_, _*_}
 use mathlib.Core.Path.{_≡_, refl, sym, ap, _∙_}
 use mathlib.Core.Logic.{_≢_}
 use mathlib.Core.Bool.{Bool, true, false, not, false≢true}
@@ -9,6 +9,7 @@ use native.Mathlib.Omega.{arith}
 use lib.ListN.{length, getD, replicate, getD-replicate}
 use borrow.Author.Tests.{not-true, not-false}
 use Rattle.lists.specs.Numbers.{tabulate}
+use Rattle.lists.proofs.Length.{getD-same}
 use Rattle.lists.proofs.Tabulate.{tabulate-ext}
 use Rattle.plan.specs.declared.Template.{Template}
 use Rattle.plan.specs.declared.Plan.{Plan}
@@ -30,11 +31,6 @@ use Rattle.machine.specs.Machine.{start, root}
 use Rattle.machine.specs.State.{Cells, placed, processesOf, machineFrom, machineOf, blankState, startOn, started}
 
 -- ---- the root's state
-
-zeros : (n i : ℕ) → _≡_ {A = ℕ} (getD (replicate n 0) i 0) 0
-zeros zero i = refl
-zeros (suc n) zero = refl
-zeros (suc n) (suc i) = zeros n i
 
 -- One process: serial 0 at template 0, with its lab and every tag 0.
 module _ (plan : Plan) (t : Template) (e : t ≡ at plan 0) where
@@ -66,7 +62,7 @@ module _ (plan : Plan) (t : Template) (e : t ≡ at plan 0) where
     tags = replicate 4096 0;
   }) ≡ start plan
   unfolding machineOf
-  root-machine = one-process _ (zeros 128 0) (zeros 128 0) (getD-replicate 128 0 (t .lab) 0 (omega arith)) (zeros 4096)
+  root-machine = one-process _ (getD-same ℕ 128 0 0) (getD-same ℕ 128 0 0) (getD-replicate 128 0 (t .lab) 0 (omega arith)) (λ i. getD-same ℕ 4096 i 0)
 
 -- ---- the verdict
 

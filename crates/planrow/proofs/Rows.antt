@@ -16,6 +16,7 @@ use borrow.Author.Tests.{lt-ltb, le-ltb, le-leb, lt-leb, leb-true, not-true, not
 use Rattle.lists.specs.Numbers.{every, tabulate}
 use Rattle.lists.proofs.Tests.{lt-or-le, and-left, and-right}
 use Rattle.lists.proofs.Every.{every-acc, every-at}
+use Rattle.lists.proofs.Length.{getD-same}
 use Rattle.lists.proofs.Tabulate.{length-tabulate, getD-tabulate}
 use Rattle.lists.specs.Writes.{written}
 use Rattle.lists.proofs.Written.{written-in, written-below, written-above}
@@ -137,12 +138,6 @@ pub record Filling (row : List ℕ) (n : ℕ) (templates : List Template) (i : �
   pub room : length templates ≡ 64
   pub each : (j : ℕ) → getD templates j blank ≡ cond (ltb j i) (templateIn row j) blank
 
--- A row of blank templates.
-pub blanks : (n j : ℕ) → getD (replicate n blank) j blank ≡ blank
-blanks zero j = refl
-blanks (suc n) zero = refl
-blanks (suc n) (suc j) = blanks n j
-
 module _ (row : List ℕ) (n : ℕ) where
   pub filling-none : (b : Template) → b ≡ blank → isPlan row ≡ true → n ≡ getD row 0 0 → Filling row n (replicate 64 b) 0
   filling-none b eb e q = subst (λ (b : Template). Filling row n (replicate 64 b) 0) (sym eb) (record {
@@ -151,7 +146,7 @@ module _ (row : List ℕ) (n : ℕ) where
     few = subst (λ (n : ℕ). n ≤ 64) (sym q) (plan-count row e);
     so-far = omega arith;
     room = refl;
-    each = λ j. blanks 64 j ∙ ap (λ (b : Bool). cond b (templateIn row j) blank) (sym (le-ltb j 0 (omega arith)));
+    each = λ j. getD-same Template 64 j blank ∙ ap (λ (b : Bool). cond b (templateIn row j) blank) (sym (le-ltb j 0 (omega arith)));
   })
 
   pub filling-more : (templates : List Template) (i : ℕ) (t : Template) → Filling row n templates i → i < n → t ≡ templateIn row i
@@ -222,11 +217,6 @@ read-so row b r e h k q = rw (k, q, sym e ∙ not-false b h)
 
 -- ---- the row of a plan, template after template
 
-zeros : (n j : ℕ) → _≡_ {A = ℕ} (getD (replicate n 0) j 0) 0
-zeros zero j = refl
-zeros (suc n) zero = refl
-zeros (suc n) (suc j) = zeros n j
-
 -- After i of n templates: their words stand there, and 0 past them.
 pub record Writing (plan : Plan) (n : ℕ) (row : List ℕ) (i : ℕ) : Type 0 where
   pub limit : n ≡ min (plan .count) 64
@@ -265,7 +255,7 @@ module _ (plan : Plan) (n : ℕ) where
     counted = e;
     identified = refl;
     each = λ j h. omega arith;
-    rest = λ j h. ap (λ (k : ℕ). getD (set (set (replicate 514 0) 0 count) 1 (plan .identifiers)) k 0) (two-on j) ∙ zeros 512 j;
+    rest = λ j h. ap (λ (k : ℕ). getD (set (set (replicate 514 0) 0 count) 1 (plan .identifiers)) k 0) (two-on j) ∙ getD-same ℕ 512 j 0;
   }
     where
       two-on : (j : ℕ) → j + 2 ≡ suc (suc j)
