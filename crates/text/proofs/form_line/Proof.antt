@@ -1,21 +1,20 @@
 -- The line is opened, then its field read.
 use Rattle.field.proofs.Answers.{answers}
 use Rattle.text.proofs.Lines.{ways, places}
-use borrow.Author.Needs.{needs}
 use Rattle.text.proofs.form_line.Statement.{statement}
 use Rattle.text.proofs.form_line.Tie as tie
 
 slice-aggregate-open-line : tie.Need-slice-aggregate-open-line
-slice-aggregate-open-line c = search needs
+slice-aggregate-open-line c = search
 
 open-line-requires : tie.Need-open-line-requires
-open-line-requires c κs = search needs
+open-line-requires c κs = search
 
 enum-known-next : tie.Need-enum-known-next
-enum-known-next c = search needs
+enum-known-next c = search
 
 enum-known-start : tie.Need-enum-known-start
-enum-known-start c = search needs
+enum-known-start c = search
 
 sub-read-form : tie.Need-sub-read-form
 sub-read-form c = search places
@@ -27,19 +26,19 @@ part-read-form-end : tie.Need-part-read-form-end
 part-read-form-end c = search places
 
 read-form-requires : tie.Need-read-form-requires
-read-form-requires c κs = search needs
+read-form-requires c κs = search
 
 enum-known-number : tie.Need-enum-known-number
-enum-known-number c = search needs
+enum-known-number c = search
 
 enum-known-f : tie.Need-enum-known-f
-enum-known-f c = search needs
+enum-known-f c = search
 
 add-t24 : tie.Need-add-t24
-add-t24 c = search (needs, places)
+add-t24 c = search places
 
 add-t25 : tie.Need-add-t25
-add-t25 c = search (needs, places)
+add-t25 c = search places
 
 returns : tie.Need-returns
 returns c = search ways

@@ -2,18 +2,17 @@
 use Rattle.field.proofs.Answers.{answers}
 use Rattle.field.proofs.Words.{mask-fits}
 use Rattle.text.proofs.Lines.{ways, places}
-use borrow.Author.Needs.{needs}
 use Rattle.text.proofs.mask_line.Statement.{statement}
 use Rattle.text.proofs.mask_line.Tie as tie
 
 open-line-requires : tie.Need-open-line-requires
-open-line-requires c κs = search needs
+open-line-requires c κs = search
 
 enum-known-next : tie.Need-enum-known-next
-enum-known-next c = search needs
+enum-known-next c = search
 
 enum-known-start : tie.Need-enum-known-start
-enum-known-start c = search needs
+enum-known-start c = search
 
 sub-read-identifiers : tie.Need-sub-read-identifiers
 sub-read-identifiers c = search places
@@ -25,22 +24,22 @@ part-read-identifiers-end : tie.Need-part-read-identifiers-end
 part-read-identifiers-end c = search places
 
 read-identifiers-requires : tie.Need-read-identifiers-requires
-read-identifiers-requires c κs = search needs
+read-identifiers-requires c κs = search
 
 enum-known-number : tie.Need-enum-known-number
-enum-known-number c = search needs
+enum-known-number c = search
 
 enum-known-m : tie.Need-enum-known-m
-enum-known-m c = search needs
+enum-known-m c = search
 
 cast-t20 : tie.Need-cast-t20
-cast-t20 c = search (needs, mask-fits)
+cast-t20 c = search mask-fits
 
 add-t21 : tie.Need-add-t21
-add-t21 c = search (needs, places)
+add-t21 c = search places
 
 add-t22 : tie.Need-add-t22
-add-t22 c = search (needs, places)
+add-t22 c = search places
 
 returns : tie.Need-returns
 returns c = search ways

@@ -17,19 +17,19 @@ loop-holds : tie.Need-loop-holds Inv-loop μ-loop
 loop-holds c = refl
 
 sub-j : tie.Need-sub-j Inv-loop μ-loop
-sub-j c = search needs
+sub-j c = search
 
 place-at-requires : tie.Need-place-at-requires Inv-loop μ-loop
-place-at-requires c κs = search needs
+place-at-requires c κs = search
 
 place-at-requires-2 : tie.Need-place-at-requires-2 Inv-loop μ-loop
-place-at-requires-2 c κs = search needs
+place-at-requires-2 c κs = search
 
 part-requires : tie.Need-part-requires Inv-loop μ-loop
-part-requires c κs = search needs
+part-requires c κs = search
 
 same-bytes-requires : tie.Need-same-bytes-requires Inv-loop μ-loop
-same-bytes-requires c κs = search needs
+same-bytes-requires c κs = search
 
 returns : tie.Need-returns Inv-loop μ-loop
 returns c = search stood-here

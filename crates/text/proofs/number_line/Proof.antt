@@ -7,13 +7,13 @@ use Rattle.text.proofs.number_line.Statement.{statement}
 use Rattle.text.proofs.number_line.Tie as tie
 
 open-line-requires : tie.Need-open-line-requires
-open-line-requires c κs = search needs
+open-line-requires c κs = search
 
 enum-known-next : tie.Need-enum-known-next
-enum-known-next c = search needs
+enum-known-next c = search
 
 enum-known-start : tie.Need-enum-known-start
-enum-known-start c = search needs
+enum-known-start c = search
 
 sub-read-number : tie.Need-sub-read-number
 sub-read-number c = search places
@@ -25,22 +25,22 @@ part-read-number-end : tie.Need-part-read-number-end
 part-read-number-end c = search places
 
 read-number-requires : tie.Need-read-number-requires
-read-number-requires c κs = search needs
+read-number-requires c κs = search
 
 enum-known-number : tie.Need-enum-known-number
-enum-known-number c = search needs
+enum-known-number c = search
 
 enum-known-v : tie.Need-enum-known-v
-enum-known-v c = search needs
+enum-known-v c = search
 
 cast-t22 : tie.Need-cast-t22
-cast-t22 c = search (needs, number-fits)
+cast-t22 c = search number-fits
 
 add-t23 : tie.Need-add-t23
-add-t23 c = search (needs, places)
+add-t23 c = search places
 
 add-t24 : tie.Need-add-t24
-add-t24 c = search (needs, places)
+add-t24 c = search places
 
 returns : tie.Need-returns
 returns c = (search ways, search needs)

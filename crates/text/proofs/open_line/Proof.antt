@@ -5,13 +5,13 @@ use Rattle.text.proofs.open_line.Statement.{statement}
 use Rattle.text.proofs.open_line.Tie as tie
 
 enum-known-from : tie.Need-enum-known-from
-enum-known-from c = search needs
+enum-known-from c = search
 
 enum-known-from-2 : tie.Need-enum-known-from-2
-enum-known-from-2 c = search needs
+enum-known-from-2 c = search
 
 is-standing-requires : tie.Need-is-standing-requires
-is-standing-requires c κs = search needs
+is-standing-requires c κs = search
 
 returns : tie.Need-returns
 returns c = (search lost-open, search closed-within)
@@ -26,19 +26,19 @@ part-read-field-end : tie.Need-part-read-field-end
 part-read-field-end c = search needs
 
 read-field-requires : tie.Need-read-field-requires
-read-field-requires c κs = search needs
+read-field-requires c κs = search
 
 enum-told : tie.Need-enum-told
-enum-told c = search needs
+enum-told c = search
 
 enum-known-start : tie.Need-enum-known-start
-enum-known-start c = search needs
+enum-known-start c = search
 
 add-t22 : tie.Need-add-t22
-add-t22 c = search (needs, start-fits)
+add-t22 c = search start-fits
 
 add-t23 : tie.Need-add-t23
-add-t23 c = search (needs, end-fits)
+add-t23 c = search end-fits
 
 returns-2 : tie.Need-returns-2
 returns-2 c = (search stopped-open, search closed-within)

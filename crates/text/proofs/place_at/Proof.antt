@@ -8,10 +8,10 @@ mul-result : tie.Need-mul-result
 mul-result c = search needs
 
 shared-slice-read-result : tie.Need-shared-slice-read-result
-shared-slice-read-result c = search needs
+shared-slice-read-result c = search
 
 returns : tie.Need-returns
-returns c = search needs
+returns c = search
 
 returns-2 : tie.Need-returns-2
 returns-2 c = search place-past

@@ -5,7 +5,7 @@ use Rattle.text.proofs.read_field.Statement.{statement}
 use Rattle.text.proofs.read_field.Tie as tie
 
 find-requires : tie.Need-find-requires
-find-requires c κs = search needs
+find-requires c κs = search
 
 returns : tie.Need-returns
 returns c = search span-none
@@ -20,7 +20,7 @@ part-starts-with-end : tie.Need-part-starts-with-end
 part-starts-with-end c = search needs
 
 starts-with-requires : tie.Need-starts-with-requires
-starts-with-requires c κs = search needs
+starts-with-requires c κs = search
 
 returns-2 : tie.Need-returns-2
 returns-2 c = search span-at

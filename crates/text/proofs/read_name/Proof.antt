@@ -1,17 +1,16 @@
 -- The layout first, then the names that stood.
 use Rattle.text.proofs.Names.{name-layout, name-stood, name-is}
-use borrow.Author.Needs.{needs}
 use Rattle.text.proofs.read_name.Statement.{statement}
 use Rattle.text.proofs.read_name.Tie as tie
 
 is-name-requires : tie.Need-is-name-requires
-is-name-requires c κs = search needs
+is-name-requires c κs = search
 
 returns : tie.Need-returns
 returns c = search name-layout
 
 name-stood-requires : tie.Need-name-stood-requires
-name-stood-requires c κs = search needs
+name-stood-requires c κs = search
 
 returns-2 : tie.Need-returns-2
 returns-2 c = search name-stood

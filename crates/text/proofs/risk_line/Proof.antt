@@ -1,21 +1,20 @@
 -- The line is opened, then its field read.
 use Rattle.field.proofs.Answers.{answers}
 use Rattle.text.proofs.Lines.{ways, places}
-use borrow.Author.Needs.{needs}
 use Rattle.text.proofs.risk_line.Statement.{statement}
 use Rattle.text.proofs.risk_line.Tie as tie
 
 slice-aggregate-open-line : tie.Need-slice-aggregate-open-line
-slice-aggregate-open-line c = search needs
+slice-aggregate-open-line c = search
 
 open-line-requires : tie.Need-open-line-requires
-open-line-requires c κs = search needs
+open-line-requires c κs = search
 
 enum-known-next : tie.Need-enum-known-next
-enum-known-next c = search needs
+enum-known-next c = search
 
 enum-known-start : tie.Need-enum-known-start
-enum-known-start c = search needs
+enum-known-start c = search
 
 sub-read-risk : tie.Need-sub-read-risk
 sub-read-risk c = search places
@@ -27,19 +26,19 @@ part-read-risk-end : tie.Need-part-read-risk-end
 part-read-risk-end c = search places
 
 read-risk-requires : tie.Need-read-risk-requires
-read-risk-requires c κs = search needs
+read-risk-requires c κs = search
 
 enum-known-number : tie.Need-enum-known-number
-enum-known-number c = search needs
+enum-known-number c = search
 
 enum-known-b : tie.Need-enum-known-b
-enum-known-b c = search needs
+enum-known-b c = search
 
 add-t21 : tie.Need-add-t21
-add-t21 c = search (needs, places)
+add-t21 c = search places
 
 add-t22 : tie.Need-add-t22
-add-t22 c = search (needs, places)
+add-t22 c = search places
 
 returns : tie.Need-returns
 returns c = search ways
