@@ -1,20 +1,19 @@
 -- By the kind.
 use Rattle.field.proofs.Words.{misplaced-secrecy, misplaced-prot}
-use borrow.Author.Needs.{needs}
 use Rattle.field.proofs.is_misplaced.Statement.{statement}
 use Rattle.field.proofs.is_misplaced.Tie as tie
 
 enum-told : tie.Need-enum-told
-enum-told c = search needs
+enum-told c = search
 
 contains-u64-requires : tie.Need-contains-u64-requires
-contains-u64-requires c κs = search needs
+contains-u64-requires c κs = search
 
 contains-u64-requires-2 : tie.Need-contains-u64-requires-2
-contains-u64-requires-2 c κs = search needs
+contains-u64-requires-2 c κs = search
 
 enum-told-2 : tie.Need-enum-told-2
-enum-told-2 c = search needs
+enum-told-2 c = search
 
 returns : tie.Need-returns
 returns c = search misplaced-secrecy

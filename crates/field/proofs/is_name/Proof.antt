@@ -1,6 +1,5 @@
 -- The length first, then the bytes.
 use Rattle.field.proofs.Words.{name-none, name-long, name-bytes}
-use borrow.Author.Needs.{needs}
 use Rattle.field.proofs.is_name.Statement.{statement}
 use Rattle.field.proofs.is_name.Tie as tie
 
@@ -11,7 +10,7 @@ returns-2 : tie.Need-returns-2
 returns-2 c = search name-long
 
 are-name-bytes-requires : tie.Need-are-name-bytes-requires
-are-name-bytes-requires c κs = search needs
+are-name-bytes-requires c κs = search
 
 returns-3 : tie.Need-returns-3
 returns-3 c = search name-bytes

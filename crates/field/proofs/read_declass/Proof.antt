@@ -8,13 +8,13 @@ read-mask-requires : tie.Need-read-mask-requires
 read-mask-requires c κs = search needs
 
 enum-known-number : tie.Need-enum-known-number
-enum-known-number c = search needs
+enum-known-number c = search
 
 enum-known-m : tie.Need-enum-known-m
-enum-known-m c = search needs
+enum-known-m c = search
 
 is-misplaced-requires : tie.Need-is-misplaced-requires
-is-misplaced-requires c κs = search needs
+is-misplaced-requires c κs = search
 
 returns : tie.Need-returns
 returns c = search declass-misplaced

@@ -18,19 +18,19 @@ loop-holds : tie.Need-loop-holds Inv-loop μ-loop
 loop-holds c = (search needs, search needs, refl)
 
 shared-slice-read-digit : tie.Need-shared-slice-read-digit Inv-loop μ-loop
-shared-slice-read-digit c = search needs
+shared-slice-read-digit c = search
 
 digit-requires : tie.Need-digit-requires Inv-loop μ-loop
-digit-requires c κs = search needs
+digit-requires c κs = search
 
 returns : tie.Need-returns Inv-loop μ-loop
 returns c = search digits-bad
 
 mul-value : tie.Need-mul-value Inv-loop μ-loop
-mul-value c = search (needs, product-fits)
+mul-value c = search product-fits
 
 add-value : tie.Need-add-value Inv-loop μ-loop
-add-value c = search (needs, sum-fits)
+add-value c = search sum-fits
 
 add-i : tie.Need-add-i Inv-loop μ-loop
 add-i c = search needs

@@ -9,20 +9,20 @@ use Rattle.field.proofs.read_form.Statement.{statement}
 use Rattle.field.proofs.read_form.Tie as tie
 
 slice-aggregate-same-bytes : tie.Need-slice-aggregate-same-bytes
-slice-aggregate-same-bytes c = search needs
+slice-aggregate-same-bytes c = search
 
 same-bytes-requires : tie.Need-same-bytes-requires
-same-bytes-requires c κs = search needs
+same-bytes-requires c κs = search
 
 returns : tie.Need-returns
 unfolding form
 returns c = search cond-yes
 
 slice-aggregate-starts-with : tie.Need-slice-aggregate-starts-with
-slice-aggregate-starts-with c = search needs
+slice-aggregate-starts-with c = search
 
 starts-with-requires : tie.Need-starts-with-requires
-starts-with-requires c κs = search needs
+starts-with-requires c κs = search
 
 sub-read-go : tie.Need-sub-read-go
 sub-read-go c = search (starts-room (bytes "go:"))
@@ -34,17 +34,17 @@ part-read-go-end : tie.Need-part-read-go-end
 part-read-go-end c = search needs
 
 read-go-requires : tie.Need-read-go-requires
-read-go-requires c κs = search needs
+read-go-requires c κs = search
 
 returns-2 : tie.Need-returns-2
 unfolding form
 returns-2 c = search (cond-yes, cond-no, after-go)
 
 slice-aggregate-starts-with-2 : tie.Need-slice-aggregate-starts-with-2
-slice-aggregate-starts-with-2 c = search needs
+slice-aggregate-starts-with-2 c = search
 
 starts-with-requires-2 : tie.Need-starts-with-requires-2
-starts-with-requires-2 c κs = search needs
+starts-with-requires-2 c κs = search
 
 sub-read-either : tie.Need-sub-read-either
 sub-read-either c = search (starts-room (bytes "either:"))
@@ -56,17 +56,17 @@ part-read-either-end : tie.Need-part-read-either-end
 part-read-either-end c = search needs
 
 read-either-requires : tie.Need-read-either-requires
-read-either-requires c κs = search needs
+read-either-requires c κs = search
 
 returns-3 : tie.Need-returns-3
 unfolding form
 returns-3 c = search (cond-yes, cond-no, after-either)
 
 slice-aggregate-starts-with-3 : tie.Need-slice-aggregate-starts-with-3
-slice-aggregate-starts-with-3 c = search needs
+slice-aggregate-starts-with-3 c = search
 
 starts-with-requires-3 : tie.Need-starts-with-requires-3
-starts-with-requires-3 c κs = search needs
+starts-with-requires-3 c κs = search
 
 sub-read-both : tie.Need-sub-read-both
 sub-read-both c = search (starts-room (bytes "both:"))
@@ -78,7 +78,7 @@ part-read-both-end : tie.Need-part-read-both-end
 part-read-both-end c = search needs
 
 read-both-requires : tie.Need-read-both-requires
-read-both-requires c κs = search needs
+read-both-requires c κs = search
 
 returns-4 : tie.Need-returns-4
 unfolding form

@@ -1,20 +1,19 @@
 -- A template number that was read is below n, so it is a byte.
 use Rattle.field.proofs.Words.{go-bad, go-is, number-fits}
-use borrow.Author.Needs.{needs}
 use Rattle.field.proofs.read_go.Statement.{statement}
 use Rattle.field.proofs.read_go.Tie as tie
 
 read-number-requires : tie.Need-read-number-requires
-read-number-requires c κs = search needs
+read-number-requires c κs = search
 
 enum-known-number : tie.Need-enum-known-number
-enum-known-number c = search needs
+enum-known-number c = search
 
 enum-known-y : tie.Need-enum-known-y
-enum-known-y c = search needs
+enum-known-y c = search
 
 cast-t7 : tie.Need-cast-t7
-cast-t7 c = search (needs, number-fits)
+cast-t7 c = search number-fits
 
 returns : tie.Need-returns
 returns c = search go-bad

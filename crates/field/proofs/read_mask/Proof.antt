@@ -11,13 +11,13 @@ read-digits-requires : tie.Need-read-digits-requires
 read-digits-requires c κs = search needs
 
 enum-known-n : tie.Need-enum-known-n
-enum-known-n c = search needs
+enum-known-n c = search
 
 enum-known-m : tie.Need-enum-known-m
-enum-known-m c = search needs
+enum-known-m c = search
 
 is-below-requires : tie.Need-is-below-requires
-is-below-requires c κs = search needs
+is-below-requires c κs = search
 
 returns-2 : tie.Need-returns-2
 returns-2 c = search mask-is

@@ -1,17 +1,16 @@
 -- The layout first, then the range.
 use Rattle.field.proofs.Numbers.{number-bad, number-low, number-high, number-is}
-use borrow.Author.Needs.{needs}
 use Rattle.field.proofs.read_number.Statement.{statement}
 use Rattle.field.proofs.read_number.Tie as tie
 
 read-decimal-requires : tie.Need-read-decimal-requires
-read-decimal-requires c κs = search needs
+read-decimal-requires c κs = search
 
 enum-known-n : tie.Need-enum-known-n
-enum-known-n c = search needs
+enum-known-n c = search
 
 enum-known-v : tie.Need-enum-known-v
-enum-known-v c = search needs
+enum-known-v c = search
 
 returns : tie.Need-returns
 returns c = search number-low

@@ -5,7 +5,7 @@ use Rattle.field.proofs.read_pair.Statement.{statement}
 use Rattle.field.proofs.read_pair.Tie as tie
 
 find-requires : tie.Need-find-requires
-find-requires c κs = search needs
+find-requires c κs = search
 
 returns : tie.Need-returns
 returns c = search pair-none
@@ -20,13 +20,13 @@ part-read-decimal-end : tie.Need-part-read-decimal-end
 part-read-decimal-end c = search needs
 
 read-decimal-requires : tie.Need-read-decimal-requires
-read-decimal-requires c κs = search needs
+read-decimal-requires c κs = search
 
 enum-known-number : tie.Need-enum-known-number
-enum-known-number c = search needs
+enum-known-number c = search
 
 enum-known-y : tie.Need-enum-known-y
-enum-known-y c = search needs
+enum-known-y c = search
 
 add-read-decimal : tie.Need-add-read-decimal
 add-read-decimal c = search needs
@@ -41,13 +41,13 @@ part-read-decimal-end-2 : tie.Need-part-read-decimal-end-2
 part-read-decimal-end-2 c = search needs
 
 read-decimal-requires-2 : tie.Need-read-decimal-requires-2
-read-decimal-requires-2 c κs = search needs
+read-decimal-requires-2 c κs = search
 
 enum-known-number-2 : tie.Need-enum-known-number-2
-enum-known-number-2 c = search needs
+enum-known-number-2 c = search
 
 enum-known-z : tie.Need-enum-known-z
-enum-known-z c = search needs
+enum-known-z c = search
 
 returns-2 : tie.Need-returns-2
 returns-2 c = search pair-low
