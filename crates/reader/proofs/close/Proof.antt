@@ -1,17 +1,16 @@
 -- What is left at the last position decides.
 use Rattle.reader.proofs.Closing.{closed-stopped, closed-extra, closed-complete}
-use borrow.Author.Needs.{needs}
 use Rattle.reader.proofs.close.Statement.{statement}
 use Rattle.reader.proofs.close.Tie as tie
 
 enum-known-end : tie.Need-enum-known-end
-enum-known-end c = search needs
+enum-known-end c = search
 
 enum-known-end-2 : tie.Need-enum-known-end-2
-enum-known-end-2 c = search needs
+enum-known-end-2 c = search
 
 is-standing-requires : tie.Need-is-standing-requires
-is-standing-requires c κs = search needs
+is-standing-requires c κs = search
 
 returns : tie.Need-returns
 returns c = search closed-complete

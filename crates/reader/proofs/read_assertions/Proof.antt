@@ -16,7 +16,7 @@ loop-holds : tie.Need-loop-holds Inv-loop μ-loop
 loop-holds c = search turn-first
 
 read-assertion-requires : tie.Need-read-assertion-requires Inv-loop μ-loop
-read-assertion-requires c κs = search needs
+read-assertion-requires c κs = search
 
 mul-assertions : tie.Need-mul-assertions Inv-loop μ-loop
 mul-assertions c = search needs

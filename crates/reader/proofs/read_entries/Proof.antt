@@ -16,16 +16,16 @@ loop-holds : tie.Need-loop-holds Inv-loop μ-loop
 loop-holds c = search turn-first
 
 slice-aggregate-read-entry : tie.Need-slice-aggregate-read-entry Inv-loop μ-loop
-slice-aggregate-read-entry c = search needs
+slice-aggregate-read-entry c = search
 
 slice-aggregate-read-entry-2 : tie.Need-slice-aggregate-read-entry-2 Inv-loop μ-loop
-slice-aggregate-read-entry-2 c = search needs
+slice-aggregate-read-entry-2 c = search
 
 cast-read-entry : tie.Need-cast-read-entry Inv-loop μ-loop
 cast-read-entry c = search needs
 
 read-entry-requires : tie.Need-read-entry-requires Inv-loop μ-loop
-read-entry-requires c κs = search needs
+read-entry-requires c κs = search
 
 mul-templates : tie.Need-mul-templates Inv-loop μ-loop
 mul-templates c = search needs

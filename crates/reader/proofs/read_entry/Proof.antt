@@ -1,20 +1,19 @@
 -- One line after the other.
 use Rattle.reader.proofs.Gathered.{entry-gathered}
-use borrow.Author.Needs.{needs}
 use Rattle.reader.proofs.read_entry.Statement.{statement}
 use Rattle.reader.proofs.read_entry.Tie as tie
 
 name-line-requires : tie.Need-name-line-requires
-name-line-requires c κs = search needs
+name-line-requires c κs = search
 
 form-line-requires : tie.Need-form-line-requires
-form-line-requires c κs = search needs
+form-line-requires c κs = search
 
 read-masks-requires : tie.Need-read-masks-requires
-read-masks-requires c κs = search needs
+read-masks-requires c κs = search
 
 risk-line-requires : tie.Need-risk-line-requires
-risk-line-requires c κs = search needs
+risk-line-requires c κs = search
 
 returns : tie.Need-returns
 returns c = search entry-gathered

@@ -1,32 +1,31 @@
 -- One line after the other.
 use Rattle.reader.proofs.Gathered.{masks-gathered}
-use borrow.Author.Needs.{needs}
 use Rattle.reader.proofs.read_masks.Statement.{statement}
 use Rattle.reader.proofs.read_masks.Tie as tie
 
 slice-aggregate-mask-line : tie.Need-slice-aggregate-mask-line
-slice-aggregate-mask-line c = search needs
+slice-aggregate-mask-line c = search
 
 mask-line-requires : tie.Need-mask-line-requires
-mask-line-requires c κs = search needs
+mask-line-requires c κs = search
 
 slice-aggregate-mask-line-2 : tie.Need-slice-aggregate-mask-line-2
-slice-aggregate-mask-line-2 c = search needs
+slice-aggregate-mask-line-2 c = search
 
 mask-line-requires-2 : tie.Need-mask-line-requires-2
-mask-line-requires-2 c κs = search needs
+mask-line-requires-2 c κs = search
 
 slice-aggregate-mask-line-3 : tie.Need-slice-aggregate-mask-line-3
-slice-aggregate-mask-line-3 c = search needs
+slice-aggregate-mask-line-3 c = search
 
 mask-line-requires-3 : tie.Need-mask-line-requires-3
-mask-line-requires-3 c κs = search needs
+mask-line-requires-3 c κs = search
 
 slice-aggregate-mask-line-4 : tie.Need-slice-aggregate-mask-line-4
-slice-aggregate-mask-line-4 c = search needs
+slice-aggregate-mask-line-4 c = search
 
 mask-line-requires-4 : tie.Need-mask-line-requires-4
-mask-line-requires-4 c κs = search needs
+mask-line-requires-4 c κs = search
 
 returns : tie.Need-returns
 returns c = search masks-gathered

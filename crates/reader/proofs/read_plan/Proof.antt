@@ -1,29 +1,28 @@
 -- The length first, then the lines, then that nothing follows.
 use Rattle.reader.proofs.Closing.{plan-long, plan-refused, plan-complete}
-use borrow.Author.Needs.{needs}
 use Rattle.reader.proofs.read_plan.Statement.{statement}
 use Rattle.reader.proofs.read_plan.Tie as tie
 
 no-plan-requires : tie.Need-no-plan-requires
-no-plan-requires c κs = search needs
+no-plan-requires c κs = search
 
 returns : tie.Need-returns
 returns c = search plan-long
 
 read-plan-lines-requires : tie.Need-read-plan-lines-requires
-read-plan-lines-requires c κs = search needs
+read-plan-lines-requires c κs = search
 
 close-requires : tie.Need-close-requires
-close-requires c κs = search needs
+close-requires c κs = search
 
 enum-known-refusal : tie.Need-enum-known-refusal
-enum-known-refusal c = search needs
+enum-known-refusal c = search
 
 no-plan-requires-2 : tie.Need-no-plan-requires-2
-no-plan-requires-2 c κs = search needs
+no-plan-requires-2 c κs = search
 
 enum-told : tie.Need-enum-told
-enum-told c = search needs
+enum-told c = search
 
 returns-2 : tie.Need-returns-2
 returns-2 c = search plan-refused

@@ -5,19 +5,19 @@ use Rattle.reader.proofs.read_plan_lines.Statement.{statement}
 use Rattle.reader.proofs.read_plan_lines.Tie as tie
 
 slice-aggregate-number-line : tie.Need-slice-aggregate-number-line
-slice-aggregate-number-line c = search needs
+slice-aggregate-number-line c = search
 
 number-line-requires : tie.Need-number-line-requires
-number-line-requires c κs = search needs
+number-line-requires c κs = search
 
 slice-aggregate-number-line-2 : tie.Need-slice-aggregate-number-line-2
-slice-aggregate-number-line-2 c = search needs
+slice-aggregate-number-line-2 c = search
 
 number-line-requires-2 : tie.Need-number-line-requires-2
-number-line-requires-2 c κs = search needs
+number-line-requires-2 c κs = search
 
 read-entries-requires : tie.Need-read-entries-requires
-read-entries-requires c κs = search needs
+read-entries-requires c κs = search
 
 cast-t17 : tie.Need-cast-t17
 cast-t17 c = search needs

@@ -1,29 +1,28 @@
 -- The length first, then the lines, then that nothing follows.
 use Rattle.reader.proofs.Closing.{policy-long, policy-refused, policy-complete}
-use borrow.Author.Needs.{needs}
 use Rattle.reader.proofs.read_policy.Statement.{statement}
 use Rattle.reader.proofs.read_policy.Tie as tie
 
 no-policy-requires : tie.Need-no-policy-requires
-no-policy-requires c κs = search needs
+no-policy-requires c κs = search
 
 returns : tie.Need-returns
 returns c = search policy-long
 
 read-policy-lines-requires : tie.Need-read-policy-lines-requires
-read-policy-lines-requires c κs = search needs
+read-policy-lines-requires c κs = search
 
 close-requires : tie.Need-close-requires
-close-requires c κs = search needs
+close-requires c κs = search
 
 enum-known-refusal : tie.Need-enum-known-refusal
-enum-known-refusal c = search needs
+enum-known-refusal c = search
 
 no-policy-requires-2 : tie.Need-no-policy-requires-2
-no-policy-requires-2 c κs = search needs
+no-policy-requires-2 c κs = search
 
 enum-told : tie.Need-enum-told
-enum-told c = search needs
+enum-told c = search
 
 returns-2 : tie.Need-returns-2
 returns-2 c = search policy-refused

@@ -5,13 +5,13 @@ use Rattle.reader.proofs.read_policy_lines.Statement.{statement}
 use Rattle.reader.proofs.read_policy_lines.Tie as tie
 
 slice-aggregate-number-line : tie.Need-slice-aggregate-number-line
-slice-aggregate-number-line c = search needs
+slice-aggregate-number-line c = search
 
 number-line-requires : tie.Need-number-line-requires
-number-line-requires c κs = search needs
+number-line-requires c κs = search
 
 read-assertions-requires : tie.Need-read-assertions-requires
-read-assertions-requires c κs = search needs
+read-assertions-requires c κs = search
 
 cast-t13 : tie.Need-cast-t13
 cast-t13 c = search needs
