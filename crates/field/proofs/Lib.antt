@@ -1,3 +1,4 @@
 pub mod Numbers
+pub mod Each
 pub mod Words
 pub mod Answers

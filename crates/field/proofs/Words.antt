@@ -6,11 +6,11 @@ use mathlib.Core.Bool.{Bool, true, false, not, cond, _&&_, _||_}
 use native.Mathlib.Omega.{arith}
 use lib.ListN.{length, getD, take, drop, drop-of-length-le}
 use lib.Dec.{leb, ltb, eqb}
-use borrow.Author.Tests.{leb-true, ltb-true, eqb-true, le-leb, lt-leb, lt-ltb, le-ltb, not-true, not-false}
+use borrow.Author.Tests.{le-leb, lt-leb, lt-ltb, le-ltb, not-true, not-false}
 use Rattle.lists.specs.Numbers.{all}
 use Rattle.mask.specs.Mask.{has}
 use Rattle.plan.specs.declared.Form.{Form}
-use Rattle.plan.specs.declared.Form.the-variants.{Go, Either, Both}
+use Rattle.plan.specs.declared.Form.the-variants.{Go}
 use Rattle.plan.specs.declared.Kind.{Kind}
 use Rattle.plan.specs.declared.Kind.the-variants.{Secrecy, Prot}
 use Rattle.scan.specs.Bytes.{before}
@@ -18,6 +18,7 @@ use Rattle.scan.proofs.Ways.{told}
 use Rattle.scan.proofs.Parts.{rest-of, first-of}
 use Rattle.scan.proofs.Steps.{at-place}
 use Rattle.field.proofs.Numbers.{decimal-none, digits-below}
+use Rattle.field.proofs.Each.{number-range, mask-read}
 use Rattle.field.specs.Fields.{Field, is, bad, andThen, digit, digits, decimal, number, templateNumber, mask, nameByte, pair, misplaced, declass}
 use Rattle.field.specs.Answers.{numberOf, pairOf, isName}
 use Rattle.field.specs.declared.NumberField.{NumberField}
@@ -61,7 +62,7 @@ module _ (s : List ℕ) where
 -- ---- forms
 
 -- The layout of a decimal is its only refusal.
-pub digits-refusal : (base acc : ℕ) (s : List ℕ) (n : ℕ) → digits base acc s ≡ bad n → n ≡ 2
+digits-refusal : (base acc : ℕ) (s : List ℕ) (n : ℕ) → digits base acc s ≡ bad n → n ≡ 2
 unfolding digits
 digits-refusal base acc [] n e = let z : _≡_ {A = ℕ} 0 1 = cc in absurd (omega arith)
 digits-refusal base acc (b ∷ s) n e = go (digits-refusal base (acc * base + digit b) s n) (ltb (digit b) base) refl
@@ -70,7 +71,7 @@ digits-refusal base acc (b ∷ s) n e = go (digits-refusal base (acc * base + di
     go ih true q = ih (rw (q, digits) at e)
     go ih false q = let h : bad 2 ≡ bad n = rw (q, digits) at e in cc
 
-pub decimal-refusal : (s : List ℕ) (n : ℕ) → decimal s ≡ bad n → n ≡ 2
+decimal-refusal : (s : List ℕ) (n : ℕ) → decimal s ≡ bad n → n ≡ 2
 unfolding decimal
 decimal-refusal s n e = go (ltb 0 (length s) && (leb (length s) 4 && (eqb (length s) 1 || not (eqb (getD s 0 0) 48)))) e
   where
@@ -101,72 +102,35 @@ module _ (f : ℕ → ℕ → Form) (N : ℕ) (s : List ℕ) (c : ℕ) (e : c �
       pair-second n p = rw (← e, ← first-of s c, ← d, q, pair) (rw (← rest-of s (c + 1), ← g, p))
 
       module _ (Z : ℕ) (p : u ≡ Is Z) where
-        pub pair-low : N ≤ Y → bad 3 ≡ pair N f s
+        pair-read : cond (ltb Y N && ltb Z N) (is (f Y Z)) (bad 3) ≡ pair N f s
         unfolding pair andThen
-        pair-low h = rw (← e, ← first-of s c, ← d, q, pair) (rw (← rest-of s (c + 1), ← g, p, le-ltb Y N h))
+        pair-read = rw (← e, ← first-of s c, ← d, q, pair) (rw (← rest-of s (c + 1), ← g, p))
+
+        pub pair-low : N ≤ Y → bad 3 ≡ pair N f s
+        pair-low h = rw (le-ltb Y N h) at pair-read
 
         pub pair-high : Y < N → N ≤ Z → bad 3 ≡ pair N f s
-        unfolding pair andThen
-        pair-high l h = rw (← e, ← first-of s c, ← d, q, pair) (rw (← rest-of s (c + 1), ← g, p, lt-ltb Y N l, le-ltb Z N h))
+        pair-high l h = rw (lt-ltb Y N l, le-ltb Z N h) at pair-read
 
         pub pair-is : Y < N → Z < N → is (f Y Z) ≡ pair N f s
-        unfolding pair andThen
-        pair-is l h = rw (← e, ← first-of s c, ← d, q, pair) (rw (← rest-of s (c + 1), ← g, p, lt-ltb Y N l, lt-ltb Z N h))
+        pair-is l h = rw (lt-ltb Y N l, lt-ltb Z N h) at pair-read
 
--- The parts that the code lends for a form's numbers go to the end of the field.
-module _ (N : ℕ) (s : List ℕ) (x : Field Form) where
-  pub after-go : x ≡ andThen (templateNumber N (take (length s - 3) (drop 3 s))) (λ Y. is (Go Y))
-      → x ≡ andThen (templateNumber N (drop 3 s)) (λ Y. is (Go Y))
+-- The part that the code lends for a form's numbers goes to the end of the field.
+module _ (N : ℕ) (s : List ℕ) (k : ℕ) (x : Field Form) where
+  pub after-go : x ≡ andThen (templateNumber N (take (length s - k) (drop k s))) (λ Y. is (Go Y))
+      → x ≡ andThen (templateNumber N (drop k s)) (λ Y. is (Go Y))
   after-go e = rw rest-of at e
 
-  pub after-either : x ≡ pair N (λ Y Z. Either Y Z) (take (length s - 7) (drop 7 s)) → x ≡ pair N (λ Y Z. Either Y Z) (drop 7 s)
-  after-either e = rw rest-of at e
+  pub after-pair : (f : ℕ → ℕ → Form) → x ≡ pair N f (take (length s - k) (drop k s)) → x ≡ pair N f (drop k s)
+  after-pair f e = rw rest-of at e
 
-  pub after-both : x ≡ pair N (λ Y Z. Both Y Z) (take (length s - 5) (drop 5 s)) → x ≡ pair N (λ Y Z. Both Y Z) (drop 5 s)
-  after-both e = rw rest-of at e
-
--- A number that was read is in its range.
-pub number-range : (refusal low limit : ℕ) (s : List ℕ) (v : ℕ) → number refusal low limit s ≡ is v → (low ≤ v) × (v < limit)
-unfolding number andThen
-number-range refusal low limit s v e = outer (decimal s) e
-  where
-    inner : (w : ℕ) (a b : Bool) → leb low w ≡ a → ltb w limit ≡ b → cond (a && b) (is w) (bad refusal) ≡ is v → (low ≤ v) × (v < limit)
-    inner w true true p q h = let i : w ≡ v = cc in omega (arith, leb-true low w p, ltb-true w limit q)
-    inner w true false p q h = let z : _≡_ {A = ℕ} 0 1 = cc in absurd (omega arith)
-    inner w false b p q h = let z : _≡_ {A = ℕ} 0 1 = cc in absurd (omega arith)
-
-    outer : (x : Field ℕ) → andThen x (λ w. cond (leb low w && ltb w limit) (is w) (bad refusal)) ≡ is v → (low ≤ v) × (v < limit)
-    outer (is w) h = inner w (leb low w) (ltb w limit) refl refl h
-    outer (bad n) h = let z : _≡_ {A = ℕ} 0 1 = cc in absurd (omega arith)
-
+-- What a number that was read is below.
 module _ (refusal low limit : ℕ) (s : List ℕ) (r : NumberField) (e : numberOf r ≡ number refusal low limit s) (v : ℕ) (h : r ≡ Is v) where
   pub number-below : v < limit
   number-below = number-range refusal low limit s v (sym e ∙ ap numberOf h) .1
 
   pub number-fits : limit < 256 → v < 256
   number-fits l = omega (arith, number-below)
-
--- A mask that was read: so many digits, and no item at its limit or past it.
-mask-read : (width items : ℕ) (s : List ℕ) (m : ℕ) → mask width items s ≡ is m → (length s ≡ width) × (digits 16 0 s ≡ is m) × (m < 2 ^ items)
-unfolding mask andThen
-mask-read width items s m e = outer (eqb (length s) width) refl e
-  where
-    inner : (x : Field ℕ) → andThen x (λ w. cond (ltb w (2 ^ items)) (is w) (bad 4)) ≡ is m → (x ≡ is m) × (m < 2 ^ items)
-    inner (is w) h = test (ltb w (2 ^ items)) refl h
-      where
-        test : (b : Bool) → ltb w (2 ^ items) ≡ b → cond b (is w) (bad 4) ≡ is m → (is w ≡ is m) × (m < 2 ^ items)
-        test true p q = let i : w ≡ m = cc in (q, subst (λ (k : ℕ). k < 2 ^ items) i (ltb-true w (2 ^ items) p))
-        test false p q = let z : _≡_ {A = ℕ} 0 1 = cc in absurd (omega arith)
-    inner (bad n) h = let z : _≡_ {A = ℕ} 0 1 = cc in absurd (omega arith)
-
-    outer : (b : Bool) → eqb (length s) width ≡ b
-        → cond b (andThen (digits 16 0 s) (λ w. cond (ltb w (2 ^ items)) (is w) (bad 4))) (bad 2) ≡ is m
-        → (length s ≡ width) × (digits 16 0 s ≡ is m) × (m < 2 ^ items)
-    outer true p h = let x = inner (digits 16 0 s) h in (eqb-true (length s) width p, x .0, x .1)
-    outer false p h = let z : _≡_ {A = ℕ} 0 1 = cc in absurd (omega arith)
-
-pub mask-range : (width items : ℕ) (s : List ℕ) (m : ℕ) → mask width items s ≡ is m → m < 2 ^ items
-mask-range width items s m e = mask-read width items s m e .2
 
 -- Eight digits fit a word of 32 bits, whatever the limit.
 pub mask-fits : (items : ℕ) (s : List ℕ) (r : NumberField) → numberOf r ≡ mask 8 items s → (m : ℕ) → r ≡ Is m → m < 2 ^ 32
@@ -186,16 +150,12 @@ module _ (N : ℕ) (s : List ℕ) (r : NumberField) (e : numberOf r ≡ number 3
   unfolding templateNumber andThen
   go-is Y h = rw (← e, h)
 
-module _ (N : ℕ) (s : List ℕ) (r : PairField) (e : (f : ℕ → ℕ → Form) → pairOf f r ≡ pair N f s) where
-  pub paired-bad : (f : ℕ → ℕ → Form) (n : ℕ) → r ≡ BadPair n → bad n ≡ pair N f s
-  paired-bad f n h = sym (ap (pairOf f) h) ∙ e f
+module _ (f : ℕ → ℕ → Form) (N : ℕ) (s : List ℕ) (r : PairField) (e : (g : ℕ → ℕ → Form) → pairOf g r ≡ pair N g s) where
+  pub paired-bad : (n : ℕ) → r ≡ BadPair n → bad n ≡ pair N f s
+  paired-bad n h = told (ap (pairOf f) h) (e f)
 
-  module _ (Y Z : ℕ) (h : r ≡ IsPair Y Z) where
-    pub either-is : is (Either Y Z) ≡ pair N (λ Y Z. Either Y Z) s
-    either-is = sym (ap (pairOf (λ Y Z. Either Y Z)) h) ∙ e (λ Y Z. Either Y Z)
-
-    pub both-is : is (Both Y Z) ≡ pair N (λ Y Z. Both Y Z) s
-    both-is = sym (ap (pairOf (λ Y Z. Both Y Z)) h) ∙ e (λ Y Z. Both Y Z)
+  pub paired-is : (Y Z : ℕ) → r ≡ IsPair Y Z → is (f Y Z) ≡ pair N f s
+  paired-is Y Z h = told (ap (pairOf f) h) (e f)
 
 -- ---- declass
 

@@ -4,56 +4,33 @@ use Prim.Native.Nat.{ℕ, zero, suc, _+_, _-_, _≤_, _<_}
 use Prim.Native.String.{String}
 use mathlib.Core.Path.{_≡_, refl, sym, ap, _∙_, subst}
 use mathlib.Core.Logic.{_≢_, _⊎_, inl, inr}
-use mathlib.Core.Bool.{Bool, true, false, cond, _&&_, _||_, true≢false}
+use mathlib.Core.Bool.{Bool, true, false, cond, _&&_, true≢false}
 use mathlib.Core.List.{List, [], _∷_, _++_}
 use native.Mathlib.Omega.{arith}
 use lib.Dec.{eqb, leb, ltb}
 use lib.ListN.{length, getD, take, drop, replicate}
 use borrow.Author.Tests.{ltb-true, eq-eqb, eqb-true, not-false}
 use Rattle.lists.specs.Numbers.{all}
-use Rattle.lists.proofs.Tests.{and-left, and-right, lt-or-le}
+use Rattle.lists.proofs.Tests.{and-both, or-none, lt-or-le}
 use Rattle.mask.specs.Mask.{has}
 use Rattle.mask.proofs.Items.{has-none}
 use Rattle.mask.proofs.Width.{has-below}
 use Rattle.plan.specs.declared.Form.{Form}
-use Rattle.plan.specs.declared.Form.the-variants.{End, Either, Both}
+use Rattle.plan.specs.declared.Form.the-variants.{End, Go, Either, Both}
 use Rattle.plan.specs.declared.Template.{Template}
 use Rattle.plan.specs.declared.Kind.{Kind}
 use Rattle.plan.specs.declared.Kind.the-variants.{Secrecy, Prot}
-use Rattle.plan.specs.declared.Assertion.{Assertion}
 use Rattle.plan.specs.Plan.{blank, blankAssertion, at, assertionAt, successors, Among}
 use Rattle.plan.specs.Range.{Below, InRange, Clear, AssertionInRange, PolicyInRange}
 use Rattle.scan.specs.Bytes.{bytes, before, startsWith, same, standsIn}
 use Rattle.field.specs.Fields.{Field, is, bad, andThen, decimal, number, templateNumber, mask, nameByte, name, pair, form, risk, kind, misplaced, declass}
-use Rattle.field.proofs.Words.{number-range, mask-range}
+use Rattle.field.proofs.Each.{Each, each-is, each-bad, each-if, each-then, number-range, mask-read}
 use Rattle.text.specs.Reading.{longest, Cursor, on, stopped, field, settle, line, entry, entries, plan, assertion, assertions, policy, closed, checked, ifComplete, noPlan, noPolicy, readPlan, readPolicy}
-use Rattle.reader.proofs.Rows.{row-in, row-past}
+use Rattle.reader.proofs.Rows.{row-in, row-past, row-cons}
 use Rattle.reader.specs.Names.{names, planNames, Distinct}
-use Rattle.text.specs.declared.Reading.{Reading}
 use Rattle.text.specs.declared.Reading.the-variants.{Complete, Refused}
 
-or-none : (a b : Bool) → (a || b) ≡ false → (a ≡ false) × (b ≡ false)
-or-none true b e = absurd (true≢false e)
-or-none false b e = (refl, e)
-
 -- ---- what a field gives
-
--- P is true of the field's value, if it has one.
-abbrev Each : {A : Type 0} → (A → Type 0) → Field A → Type 0
-Each P (is v) = P v
-Each P (bad n) = Unit
-
-each-then : {A B : Type 0} (P : B → Type 0) (x : Field A) (next : A → Field B) → ((v : A) → x ≡ is v → Each P (next v)) → Each P (andThen x next)
-unfolding andThen
-each-then P (is v) next h = h v refl
-each-then P (bad n) next h = tt
-
-each-if : {A : Type 0} (P : A → Type 0) (b : Bool) (x y : Field A) → (b ≡ true → Each P x) → (b ≡ false → Each P y) → Each P (cond b x y)
-each-if P true x y h g = h refl
-each-if P false x y h g = g refl
-
-each-at : {A : Type 0} (P : A → Type 0) (x : Field A) (v : A) → Each P x → x ≡ is v → P v
-each-at P x v h e = subst (Each P) e h
 
 -- Each successor of a form is below N.
 abbrev Onward : ℕ → Form → Type 0
@@ -73,31 +50,33 @@ pair-range N f s h =
     each-then (Onward N) (decimal (take (before 44 s) s)) _ (λ Y e.
     each-then (Onward N) (decimal (drop (before 44 s + 1) s)) _ (λ Z g.
     each-if (Onward N) (ltb Y N && ltb Z N) (is (f Y Z)) (bad 3)
-    (λ q. h Y Z (ltb-true Y N (and-left (ltb Y N) (ltb Z N) q)) (ltb-true Z N (and-right (ltb Y N) (ltb Z N) q)))
-    (λ q. tt)))
+    (λ q. let both = and-both (ltb Y N) (ltb Z N) q in each-is (Onward N) (f Y Z) (h Y Z (ltb-true Y N (both .0)) (ltb-true Z N (both .1))))
+    (λ q. each-bad (Onward N) 3)))
 
 form-range : (N : ℕ) (s : List ℕ) → Each (Onward N) (form N s)
 unfolding form successors templateNumber
 form-range N s =
-    each-if (Onward N) (same s (bytes "end")) _ _ (λ q Y m. absurd m) (λ q.
+    each-if (Onward N) (same s (bytes "end")) _ _ (λ q. each-is (Onward N) End (λ Y m. absurd m)) (λ q.
     each-if (Onward N) (startsWith (bytes "go:") s) _ _
-    (λ q. each-then (Onward N) (templateNumber N (drop 3 s)) _ (λ Y e. one-below N Y (number-range 3 0 N (drop 3 s) Y e .1))) (λ q.
+    (λ q. each-then (Onward N) (templateNumber N (drop 3 s)) _ (λ Y e. each-is (Onward N) (Go Y) (one-below N Y (number-range 3 0 N (drop 3 s) Y e .1)))) (λ q.
     each-if (Onward N) (startsWith (bytes "either:") s) _ _ (λ q. pair-range N (λ Y Z. Either Y Z) (drop 7 s) (two-below N)) (λ q.
-    each-if (Onward N) (startsWith (bytes "both:") s) _ _ (λ q. pair-range N (λ Y Z. Both Y Z) (drop 5 s) (two-below N)) (λ q. tt))))
+    each-if (Onward N) (startsWith (bytes "both:") s) _ _ (λ q. pair-range N (λ Y Z. Both Y Z) (drop 5 s) (two-below N)) (λ q. each-bad (Onward N) 2))))
 
 name-new : (stood : List (List ℕ)) (s : List ℕ) → Each (λ n. standsIn n stood ≡ false) (name stood s)
 unfolding name
 name-new stood s =
-    each-if (λ n. standsIn n stood ≡ false) (ltb 0 (length s) && (leb (length s) 16 && all nameByte s)) _ _
-    (λ q. each-if (λ n. standsIn n stood ≡ false) (standsIn s stood) (bad 5) (is s) (λ p. tt) (λ p. p))
-    (λ q. tt)
+    each-if _ (ltb 0 (length s) && (leb (length s) 16 && all nameByte s)) _ _
+    (λ q. each-if _ (standsIn s stood) (bad 5) (is s) (λ p. each-bad _ 5) (λ p. each-is _ s p))
+    (λ q. each-bad _ 2)
+
+mask-below : (width M : ℕ) (s : List ℕ) → Each (Below M) (mask width M s)
+mask-below width M s m e i = has-below M m i (mask-read width M s m e .2)
 
 declass-range : (N : ℕ) (k : Kind) (source sink : ℕ) (s : List ℕ) → Each (λ d. Below N d × (misplaced k source sink d ≡ false)) (declass N k source sink s)
 unfolding declass
 declass-range N k source sink s =
-    each-then (λ d. Below N d × (misplaced k source sink d ≡ false)) (mask 16 N s) _ (λ d e.
-    each-if (λ d. Below N d × (misplaced k source sink d ≡ false)) (misplaced k source sink d) (bad 6) (is d)
-    (λ q. tt) (λ q. (λ i h. has-below N d i (mask-range 16 N s d e) h, q)))
+    each-then _ (mask 16 N s) _ (λ d e.
+    each-if _ (misplaced k source sink d) (bad 6) (is d) (λ q. each-bad _ 6) (λ q. each-is _ d (mask-below 16 N s d e, q)))
 
 -- ---- what a line gives
 
@@ -122,26 +101,24 @@ line-read {A} empty key read (on text k) h = (tt, outer (field (bytes key) text)
     outer (is s) g = (s, inner (read s) g)
     outer (bad n) g = absurd g
 
--- The same for what is true of every field.
+-- The same for what is true of every field; so for a mask over M items, for a number and for a template's number.
 line-each : {A : Type 0} (P : A → Type 0) (empty : A) (key : String) (read : List ℕ → Field A) → ((s : List ℕ) → Each P (read s))
     → (c : Cursor) → Live (line empty key read c .next) → Live c × P (line empty key read c .value)
 line-each P empty key read h c live =
     let r = line-read empty key read c live in
-    (r .0, each-at P (read (r .1 .0)) (line empty key read c .value) (h (r .1 .0)) (r .1 .1))
+    (r .0, h (r .1 .0) (line empty key read c .value) (r .1 .1))
 
-each-of : {A : Type 0} (P : A → Type 0) (x : Field A) → ((v : A) → x ≡ is v → P v) → Each P x
-each-of P (is v) h = h v refl
-each-of P (bad n) h = tt
+mask-line : (M : ℕ) (key : String) (c : Cursor) → Live (line 0 key (mask 8 M) c .next) → Live c × Below M (line 0 key (mask 8 M) c .value)
+mask-line M key = line-each (Below M) 0 key (mask 8 M) (mask-below 8 M)
 
-mask-each : (M : ℕ) (s : List ℕ) → Each (Below M) (mask 8 M s)
-mask-each M s = each-of (Below M) (mask 8 M s) (λ m e i h. has-below M m i (mask-range 8 M s m e) h)
+count-line : (low limit : ℕ) (key : String) (c : Cursor) → Live (line 0 key (number 3 low limit) c .next)
+    → Live c × ((low ≤ line 0 key (number 3 low limit) c .value) × (line 0 key (number 3 low limit) c .value < limit))
+count-line low limit key = line-each (λ v. (low ≤ v) × (v < limit)) 0 key (number 3 low limit) (number-range 3 low limit)
 
-number-each : (N : ℕ) (s : List ℕ) → Each (λ v. v < N) (templateNumber N s)
+template-line : (N : ℕ) (key : String) (c : Cursor) → Live (line 0 key (templateNumber N) c .next)
+    → Live c × (line 0 key (templateNumber N) c .value < N)
 unfolding templateNumber
-number-each N s = each-of (λ v. v < N) (number 3 0 N s) (λ v e. number-range 3 0 N s v e .1)
-
-count-each : (low limit : ℕ) (s : List ℕ) → Each (λ v. (low ≤ v) × (v < limit)) (number 3 low limit s)
-count-each low limit s = each-of (λ v. (low ≤ v) × (v < limit)) (number 3 low limit s) (λ v e. number-range 3 low limit s v e)
+template-line N key c live = let r = count-line 0 N key c live in (r .0, r .1 .1)
 
 -- ---- templates
 
@@ -170,21 +147,16 @@ entry-fine N M stood c live =
     let c₅ = line 0 "neg=" (mask 8 M) c₄ .next in
     let c₆ = line 0 "creates=" (mask 8 M) c₅ .next in
     let risk-line = line-read false "risk=" risk c₆ live in
-    let creates-line = line-each (Below M) 0 "creates=" (mask 8 M) (mask-each M) c₅ (risk-line .0) in
-    let neg-line = line-each (Below M) 0 "neg=" (mask 8 M) (mask-each M) c₄ (creates-line .0) in
-    let pos-line = line-each (Below M) 0 "pos=" (mask 8 M) (mask-each M) c₃ (neg-line .0) in
-    let lab-line = line-each (Below M) 0 "lab=" (mask 8 M) (mask-each M) c₂ (pos-line .0) in
+    let creates-line = mask-line M "creates=" c₅ (risk-line .0) in
+    let neg-line = mask-line M "neg=" c₄ (creates-line .0) in
+    let pos-line = mask-line M "pos=" c₃ (neg-line .0) in
+    let lab-line = mask-line M "lab=" c₂ (pos-line .0) in
     let form-line = line-each (Onward N) End "form=" (form N) (form-range N) c₁ (lab-line .0) in
     let name-line = line-each (λ n. standsIn n stood ≡ false) [] "name=" (name stood) (name-new stood) c (form-line .0) in (
       name-line .0,
       record { onward = form-line .1; lab = lab-line .1; pos = pos-line .1; neg = neg-line .1; creates = creates-line .1 },
       name-line .1,
     )
-
-fine-cons : (N M : ℕ) (t : Template) (ts : List Template) (n : ℕ) → Fine N M t → ((i : ℕ) → i < n → Fine N M (getD ts i blank))
-    → (i : ℕ) → i < suc n → Fine N M (getD (t ∷ ts) i blank)
-fine-cons N M t ts n f h zero l = f
-fine-cons N M t ts n f h (suc i) l = h i (omega arith)
 
 entries-fine : (N M : ℕ) (more : ℕ) (stood : List (List ℕ)) (c : Cursor) → Live (entries N M stood more c .next)
     → Live c × (length (entries N M stood more c .value) ≡ more) × ((i : ℕ) → i < more → Fine N M (getD (entries N M stood more c .value) i blank))
@@ -194,7 +166,7 @@ entries-fine N M (suc more) stood c live =
     let e = entry N M stood c in
     let rest = entries-fine N M more (e .value .name ∷ stood) (e .next) live in
     let first = entry-fine N M stood c (rest .0) in
-    (first .0, ap suc (rest .1), fine-cons N M (e .value .template) (entries N M (e .value .name ∷ stood) more (e .next) .value) more (first .1) (rest .2))
+    (first .0, ap suc (rest .1), row-cons (Fine N M) blank (e .value .template) (entries N M (e .value .name ∷ stood) more (e .next) .value) more (first .1) (rest .2))
 
 -- ---- the end of the text
 
@@ -211,19 +183,13 @@ checked-live text c e = go (leb (length text) longest) e
     go true q = complete-live c q
     go false q = let z : _≡_ {A = ℕ} 0 1 = cc in absurd (omega arith)
 
+-- What reading to the end shows of a value is true of what a complete reading hands back.
+complete-holds : {A : Type 0} (P : A → Type 0) (text : List ℕ) (c : Cursor) (v none : A) → (Live c → P v)
+    → checked text c ≡ Complete → P (ifComplete (checked text c) v none)
+unfolding ifComplete
+complete-holds P text c v none h e = rw e (h (checked-live text c e))
+
 -- ---- the plan
-
-record Headed (text : List ℕ) : Type 0 where
-  rooted : 1 ≤ line 0 "templates=" (number 3 1 65) (on text 1) .value
-  templates : line 0 "templates=" (number 3 1 65) (on text 1) .value < 65
-  identifiers : line 0 "identifiers=" (number 3 0 33) (line 0 "templates=" (number 3 1 65) (on text 1) .next) .value < 33
-
--- The two counts, where reading has not stopped after them.
-headed : (text : List ℕ) → Live (line 0 "identifiers=" (number 3 0 33) (line 0 "templates=" (number 3 1 65) (on text 1) .next) .next) → Headed text
-headed text live =
-    let m = line-each (λ v. (0 ≤ v) × (v < 33)) 0 "identifiers=" (number 3 0 33) (count-each 0 33) (line 0 "templates=" (number 3 1 65) (on text 1) .next) live in
-    let n = line-each (λ v. (1 ≤ v) × (v < 65)) 0 "templates=" (number 3 1 65) (count-each 1 65) (on text 1) (m .0) in
-    record { rooted = n .1 .0; templates = n .1 .1; identifiers = m .1 .1 }
 
 -- Every template of a plan whose lines were read.
 row-fine : (N M : ℕ) (ts : List Template) (k : ℕ) → length ts ≡ N → ((i : ℕ) → i < N → Fine N M (getD ts i blank))
@@ -242,12 +208,13 @@ plan-range text live =
     let N = n .value in
     let M = m .value in
     let ts = entries-fine N M N [] (m .next) live in
-    let head = headed text (ts .0) in
+    let identifiers = count-line 0 33 "identifiers=" (n .next) (ts .0) in
+    let templates = count-line 1 65 "templates=" (on text 1) (identifiers .0) in
     let fine = row-fine N M (entries N M [] N (m .next) .value) (64 - N) (ts .1) (ts .2) in
     record {
-      rooted = head .rooted;
-      templates = omega (arith, head .templates);
-      identifiers = omega (arith, head .identifiers);
+      rooted = templates .1 .0;
+      templates = omega (arith, templates .1 .1);
+      identifiers = omega (arith, identifiers .1 .1);
       successors = λ X Y s. fine X .onward Y s;
       lab = λ X. fine X .lab;
       pos = λ X. fine X .pos;
@@ -258,10 +225,8 @@ plan-range text live =
 
 -- A plan that reading gives as complete is in range.
 pub plan-in-range : (text : List ℕ) → readPlan text .answer ≡ Complete → InRange (readPlan text .plan)
-unfolding readPlan ifComplete
-plan-in-range text e =
-    subst InRange (sym (ap (λ (a : Reading). ifComplete a (plan (on text 1) .value) noPlan) e))
-    (plan-range text (checked-live text (plan (on text 1) .next) e))
+unfolding readPlan
+plan-in-range text = complete-holds InRange text (plan (on text 1) .next) (plan (on text 1) .value) noPlan (plan-range text)
 
 -- ---- the names
 
@@ -270,20 +235,16 @@ unfolding same
 same-self [] = refl
 same-self (x ∷ s) = rw (eq-eqb x x refl) (same-self s)
 
-new-cons : (n : List ℕ) (l stood : List (List ℕ)) (more : ℕ) → standsIn n stood ≡ false
-    → ((j : ℕ) → j < more → standsIn (getD l j []) (n ∷ stood) ≡ false)
-    → (j : ℕ) → j < suc more → standsIn (getD (n ∷ l) j []) stood ≡ false
+-- A name that is none of those that stood: not the last, and none of those before it.
+none-stood : (m n : List ℕ) (stood : List (List ℕ)) → standsIn m (n ∷ stood) ≡ false → (same m n ≡ false) × (standsIn m stood ≡ false)
 unfolding standsIn
-new-cons n l stood more f h zero g = f
-new-cons n l stood more f h (suc j) g = or-none (same (getD l j []) n) (standsIn (getD l j []) stood) (h j (omega arith)) .1
+none-stood m n stood = or-none (same m n) (standsIn m stood)
 
 distinct-cons : (n : List ℕ) (l stood : List (List ℕ)) (more : ℕ) → length l ≡ more
     → ((j : ℕ) → j < more → standsIn (getD l j []) (n ∷ stood) ≡ false) → Distinct l → Distinct (n ∷ l)
-unfolding standsIn
 distinct-cons n l stood more len h d zero zero g k = absurd (omega arith)
 distinct-cons n l stood more len h d zero (suc j) g k =
-    λ e. true≢false (sym (same-self n) ∙ ap (λ (s : List ℕ). same s n) e
-    ∙ or-none (same (getD l j []) n) (standsIn (getD l j []) stood) (h j (omega arith)) .0)
+    λ e. true≢false (sym (same-self n) ∙ ap (λ (s : List ℕ). same s n) e ∙ none-stood (getD l j []) n stood (h j (omega arith)) .0)
 distinct-cons n l stood more len h d (suc i) zero g k = absurd (omega arith)
 distinct-cons n l stood more len h d (suc i) (suc j) g k = d i j (omega arith) (omega arith)
 
@@ -296,10 +257,12 @@ names-new N M (suc more) stood c live =
     let e = entry N M stood c in
     let rest = entries-fine N M more (e .value .name ∷ stood) (e .next) live in
     let first = entry-fine N M stood c (rest .0) in
+    let rows = names N M (e .value .name ∷ stood) more (e .next) in
     let later = names-new N M more (e .value .name ∷ stood) (e .next) live in (
       ap suc (later .0),
-      new-cons (e .value .name) (names N M (e .value .name ∷ stood) more (e .next)) stood more (first .2) (later .1),
-      distinct-cons (e .value .name) (names N M (e .value .name ∷ stood) more (e .next)) stood more (later .0) (later .1) (later .2),
+      row-cons (λ n. standsIn n stood ≡ false) [] (e .value .name) rows more (first .2)
+          (λ j h. none-stood (getD rows j []) (e .value .name) stood (later .1 j h) .1),
+      distinct-cons (e .value .name) rows stood more (later .0) (later .1) (later .2),
     )
 
 -- The names of a plan that reading gives as complete differ.
@@ -328,9 +291,9 @@ assertion-fine N c live =
     let s = sources .value in
     let z = sinks .value in
     let declass-line = line-each (λ d. Below N d × (misplaced k s z d ≡ false)) 0 "declass=" (declass N k s z) (declass-range N k s z) (ancs .next) live in
-    let anc-line = line-each (λ v. v < N) 0 "anc=" (templateNumber N) (number-each N) (sinks .next) (declass-line .0) in
-    let sink-line = line-each (λ v. v < N) 0 "sink=" (templateNumber N) (number-each N) (sources .next) (anc-line .0) in
-    let source-line = line-each (λ v. v < N) 0 "source=" (templateNumber N) (number-each N) (kinds .next) (sink-line .0) in
+    let anc-line = template-line N "anc=" (sinks .next) (declass-line .0) in
+    let sink-line = template-line N "sink=" (sources .next) (anc-line .0) in
+    let source-line = template-line N "source=" (kinds .next) (sink-line .0) in
     let kind-line = line-read Secrecy "kind=" kind c (source-line .0) in (
       kind-line .0,
       record {
@@ -350,12 +313,7 @@ assertions-fine N (suc more) c live =
     let a = assertion N c in
     let rest = assertions-fine N more (a .next) live in
     let first = assertion-fine N c (rest .0) in
-    (first .0, ap suc (rest .1), in-cons (a .value) (assertions N more (a .next) .value) more (first .1) (rest .2))
-  where
-    in-cons : (a : Assertion) (l : List Assertion) (n : ℕ) → AssertionInRange N a → ((i : ℕ) → i < n → AssertionInRange N (getD l i blankAssertion))
-        → (i : ℕ) → i < suc n → AssertionInRange N (getD (a ∷ l) i blankAssertion)
-    in-cons a l n f h zero g = f
-    in-cons a l n f h (suc i) g = h i (omega arith)
+    (first .0, ap suc (rest .1), row-cons (AssertionInRange N) blankAssertion (a .value) (assertions N more (a .next) .value) more (first .1) (rest .2))
 
 policy-range : (N : ℕ) (text : List ℕ) → Live (policy N (on text 1) .next) → PolicyInRange N (policy N (on text 1) .value)
 unfolding policy assertionAt
@@ -363,7 +321,7 @@ policy-range N text live =
     let k = line 0 "assertions=" (number 3 0 33) (on text 1) in
     let K = k .value in
     let row = assertions-fine N K (k .next) live in
-    let count = line-each (λ v. (0 ≤ v) × (v < 33)) 0 "assertions=" (number 3 0 33) (count-each 0 33) (on text 1) (row .0) in
+    let count = count-line 0 33 "assertions=" (on text 1) (row .0) in
     let list = assertions N K (k .next) .value in
     record {
       assertions = omega (arith, count .1 .1);
@@ -372,7 +330,6 @@ policy-range N text live =
 
 -- A policy that reading gives as complete is in range for the plan's count of templates.
 pub policy-in-range : (N : ℕ) (text : List ℕ) → readPolicy N text .answer ≡ Complete → PolicyInRange N (readPolicy N text .policy)
-unfolding readPolicy ifComplete
-policy-in-range N text e =
-    subst (PolicyInRange N) (sym (ap (λ (a : Reading). ifComplete a (policy N (on text 1) .value) noPolicy) e))
-    (policy-range N text (checked-live text (policy N (on text 1) .next) e))
+unfolding readPolicy
+policy-in-range N text =
+    complete-holds (PolicyInRange N) text (policy N (on text 1) .next) (policy N (on text 1) .value) noPolicy (policy-range N text)

@@ -31,3 +31,8 @@ module _ {A : Type 0} where
   row-past [] (suc k) (suc X) d h = row-past [] k X d (omega arith)
   row-past (x ∷ l) k zero d h = absurd (omega arith)
   row-past (x ∷ l) k (suc X) d h = row-past l k X d (omega arith)
+
+  -- What is true of a row's first place and of those of its rest is true of each place.
+  pub row-cons : (P : A → Type 0) (d a : A) (l : List A) (n : ℕ) → P a → ((i : ℕ) → i < n → P (getD l i d)) → (i : ℕ) → i < suc n → P (getD (a ∷ l) i d)
+  row-cons P d a l n f h zero k = f
+  row-cons P d a l n f h (suc i) k = h i (omega arith)

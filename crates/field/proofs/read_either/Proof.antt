@@ -1,5 +1,6 @@
 -- The pair's answer, as a form.
-use Rattle.field.proofs.Words.{paired-bad, either-is}
+use Rattle.plan.specs.declared.Form.the-variants.{Either}
+use Rattle.field.proofs.Words.{paired-bad, paired-is}
 use Rattle.field.proofs.read_either.Statement.{statement}
 use Rattle.field.proofs.read_either.Tie as tie
 
@@ -16,7 +17,7 @@ returns : tie.Need-returns
 returns c = search paired-bad
 
 returns-2 : tie.Need-returns-2
-returns-2 c = search either-is
+returns-2 c = search (paired-is Either)
 
 pub read-either-spec : {M : Type 1} → statement M
 read-either-spec =

@@ -3,7 +3,7 @@ use Rattle.scan.specs.Bytes.{bytes}
 use Rattle.scan.proofs.Ways.{cond-yes, cond-no}
 use Rattle.scan.proofs.Steps.{starts-room}
 use Rattle.field.specs.Fields.{form}
-use Rattle.field.proofs.Words.{after-go, after-either, after-both}
+use Rattle.field.proofs.Words.{after-go, after-pair}
 use borrow.Author.Needs.{needs}
 use Rattle.field.proofs.read_form.Statement.{statement}
 use Rattle.field.proofs.read_form.Tie as tie
@@ -60,7 +60,7 @@ read-either-requires c κs = search
 
 returns-3 : tie.Need-returns-3
 unfolding form
-returns-3 c = search (cond-yes, cond-no, after-either)
+returns-3 c = search (cond-yes, cond-no, after-pair)
 
 slice-aggregate-starts-with-3 : tie.Need-slice-aggregate-starts-with-3
 slice-aggregate-starts-with-3 c = search
@@ -82,7 +82,7 @@ read-both-requires c κs = search
 
 returns-4 : tie.Need-returns-4
 unfolding form
-returns-4 c = search (cond-yes, cond-no, after-both)
+returns-4 c = search (cond-yes, cond-no, after-pair)
 
 returns-5 : tie.Need-returns-5
 unfolding form
