@@ -2,7 +2,7 @@
 use Prim.Native.Nat.{ℕ, _+_, _-_, _^_, _≤_, _<_}
 use mathlib.Core.Path.{_≡_, refl, sym, ap₂, _∙_, subst}
 use mathlib.Core.List.{List}
-use mathlib.Core.Bool.{Bool, true, false, not, _&&_}
+use mathlib.Core.Bool.{Bool, true, false, not, cond, _&&_}
 use native.Mathlib.Omega.{arith}
 use native.Mathlib.Nat.{add-assoc}
 use lib.ListN.{length, take, drop, length-take, length-drop}
@@ -10,14 +10,14 @@ use lib.Seq.{drop-drop}
 use lib.Dec.{leb, ltb}
 use Prim.Native.String.{String}
 use borrow.Author.Tests.{lt-ltb, le-ltb, ltb-true, lt-leb, le-leb, leb-true, not-true, not-false}
-use Rattle.lists.proofs.Tests.{and-left, and-right}
+use Rattle.lists.proofs.Tests.{and-both, and-three}
 use Rattle.scan.specs.Bytes.{bytes, before, startsWith}
 use Rattle.scan.proofs.Ways.{told}
 use Rattle.scan.proofs.Parts.{rest-of, first-of, drop-take}
 use Rattle.scan.proofs.Steps.{starts-long}
 use Rattle.field.specs.Fields.{Field, is, bad, andThen}
 use Rattle.text.specs.Reading.{longest, Cursor, on, stopped, field, settle, line}
-use Rattle.text.specs.Cursors.{part, stands, cursorOf, stepOf, spanOf, found, gone, opened, settled, after, keyed, openedOf, Within}
+use Rattle.text.specs.Cursors.{part, stands, cursorOf, stepOf, spanOf, found, opened, settled, after, keyed, openedOf, Within}
 use Rattle.text.specs.declared.Position.{Position}
 use Rattle.text.specs.declared.Position.the-variants.{On, Stopped}
 use Rattle.text.specs.declared.Span.{Span}
@@ -25,17 +25,20 @@ use Rattle.text.specs.declared.Span.the-variants.{At, Missing}
 use Rattle.text.specs.declared.Line.{Line}
 use Rattle.text.specs.declared.Line.the-variants.{Open, Closed}
 
+-- The first line has its byte 10 and begins with the key.
+abbrev begins : List ℕ → List ℕ → Bool
+begins key s = ltb (before 10 s) (length s) && startsWith key (take (before 10 s) s)
+
 -- The definition's `line` is `keyed` with the bytes of its key.
 pub keyed-line : {A : Type 0} (empty : A) (key : String) (read : List ℕ → Field A) (c : Cursor) → keyed empty (bytes key) read c ≡ line empty key read c
 unfolding keyed after opened settled line settle field andThen
-keyed-line {A} empty key read (on text k) = go (ltb (before 10 text) (length text) && startsWith (bytes key) (take (before 10 text) text)) refl
+keyed-line {A} empty key read (on text k) = go (begins (bytes key) text) refl
   where
     inner : (x : Field A) → settled empty (drop (before 10 text + 1) text) k x ≡ settle empty text k x
     inner (is v) = refl
     inner (bad n) = refl
 
-    go : (b : Bool) → (ltb (before 10 text) (length text) && startsWith (bytes key) (take (before 10 text) text)) ≡ b
-        → keyed empty (bytes key) read (on text k) ≡ line empty key read (on text k)
+    go : (b : Bool) → begins (bytes key) text ≡ b → keyed empty (bytes key) read (on text k) ≡ line empty key read (on text k)
     go true e = rw (e, keyed, opened, line, field) (inner (read (drop (length (bytes key)) (take (before 10 text) text))))
     go false e = rw (e, keyed, opened, line, field)
 keyed-line empty key read (stopped n k) = refl
@@ -56,30 +59,25 @@ module _ (key s : List ℕ) (n : ℕ) (e : n ≡ before 10 s) where
     unfolding spanOf
     span-other q = rw (← e, lt-ltb n (length s) h, told (rw first-of at d) q, spanOf)
 
--- A span lies in the first line.
-pub spanned : (key s : List ℕ) (a e : ℕ) → spanOf key s ≡ At a e → (length key ≡ a) × (before 10 s ≡ e) × (a ≤ e) × (e < length s)
-unfolding spanOf
-spanned key s a e h = go (ltb (before 10 s) (length s) && startsWith key (take (before 10 s) s)) refl
-  where
-    go : (b : Bool) → (ltb (before 10 s) (length s) && startsWith key (take (before 10 s) s)) ≡ b
-        → (length key ≡ a) × (before 10 s ≡ e) × (a ≤ e) × (e < length s)
-    go false q = let no : Missing ≡ At a e = rw (q, spanOf) at h in let z : _≡_ {A = ℕ} 0 1 = cc in absurd (omega arith)
-    go true q =
-        let yes : At (length key) (before 10 s) ≡ At a e = rw (q, spanOf) at h in
-        let ea : length key ≡ a = cc in
-        let ee : before 10 s ≡ e = cc in
-        let l = ltb-true (before 10 s) (length s) (and-left (ltb (before 10 s) (length s)) (startsWith key (take (before 10 s) s)) q) in
-        let m = starts-long key (take (before 10 s) s) (and-right (ltb (before 10 s) (length s)) (startsWith key (take (before 10 s) s)) q) in
-        (ea, ee, omega (arith, simp length-take at m), omega arith)
+-- What a span tells of the test that gave it.
+span-found : (b : Bool) (m n a e : ℕ) → cond b (At m n) Missing ≡ At a e → (b ≡ true) × (m ≡ a) × (n ≡ e)
+span-found true m n a e h = (refl, cc, cc)
+span-found false m n a e h = let z : _≡_ {A = ℕ} 0 1 = cc in absurd (omega arith)
 
-pub span-test : (key s : List ℕ) (a e : ℕ) → spanOf key s ≡ At a e
-    → (ltb (before 10 s) (length s) && startsWith key (take (before 10 s) s)) ≡ true
+span-missing : (b : Bool) (m n : ℕ) → cond b (At m n) Missing ≡ Missing → b ≡ false
+span-missing true m n h = let z : _≡_ {A = ℕ} 0 1 = cc in absurd (omega arith)
+span-missing false m n h = refl
+
+-- A span lies in the first line.
+spanned : (key s : List ℕ) (a e : ℕ) → spanOf key s ≡ At a e
+    → (begins key s ≡ true) × (length key ≡ a) × (before 10 s ≡ e) × (a ≤ e) × (e < length s)
 unfolding spanOf
-span-test key s a e h = go (ltb (before 10 s) (length s) && startsWith key (take (before 10 s) s)) refl
-  where
-    go : (b : Bool) → (ltb (before 10 s) (length s) && startsWith key (take (before 10 s) s)) ≡ b → b ≡ true
-    go true q = refl
-    go false q = let no : Missing ≡ At a e = rw (q, spanOf) at h in let z : _≡_ {A = ℕ} 0 1 = cc in absurd (omega arith)
+spanned key s a e h =
+    let span = span-found (begins key s) (length key) (before 10 s) a e h in
+    let both = and-both (ltb (before 10 s) (length s)) (startsWith key (take (before 10 s) s)) (span .0) in
+    let ends = ltb-true (before 10 s) (length s) (both .0) in
+    let fits = starts-long key (take (before 10 s) s) (both .1) in
+    (span .0, span .1, span .2, omega (arith, simp length-take at fits), omega arith)
 
 -- ---- positions
 
@@ -101,11 +99,8 @@ module _ (text : List ℕ) (at k : ℕ) where
   stands-true : stands text at k ≡ true → (at ≤ length text) × (k ≤ at + 1) × (length text ≤ longest)
   unfolding stands
   stands-true e =
-      let x = leb (length text) longest in
-      let y = leb at (length text) in
-      let z = leb k (at + 1) in
-      let rest = and-right x (y && z) e in
-      (leb-true at (length text) (and-left y z rest), leb-true k (at + 1) (and-right y z rest), leb-true (length text) longest (and-left x (y && z) e))
+      let s = and-three (leb (length text) longest) (leb at (length text)) (leb k (at + 1)) e in
+      (leb-true at (length text) (s .1), leb-true k (at + 1) (s .2), leb-true (length text) longest (s .0))
 
   stands-here : at ≤ length text → k ≤ at + 1 → length text ≤ longest → stands text at k ≡ true
   unfolding stands
@@ -146,29 +141,23 @@ module _ (text : List ℕ) (p : Position) (at k : ℕ) (h : p ≡ On at k) (t : 
   module _ (stood : not t ≡ false) (key : List ℕ) (x : Span) (q : x ≡ spanOf key (take (length text - at) (drop at text))) where
     pub missing-open : x ≡ Missing → openedOf text (Closed (Stopped 2 k)) ≡ opened key (cursorOf text p)
     unfolding openedOf opened cursorOf spanOf
-    missing-open e = rw (on-cursor (not-false t stood)) (go (ltb (before 10 (drop at text)) (length (drop at text)) && startsWith key (take (before 10 (drop at text)) (drop at text))) refl)
-      where
-        go : (b : Bool) → (ltb (before 10 (drop at text)) (length (drop at text)) && startsWith key (take (before 10 (drop at text)) (drop at text))) ≡ b
-            → gone (stopped 2 k) ≡ opened key (on (drop at text) k)
-        go true r =
-            let no : At (length key) (before 10 (drop at text)) ≡ Missing = sym (rw (rest-of, r, spanOf) at q) ∙ e in
-            let z : _≡_ {A = ℕ} 0 1 = cc in
-            absurd (omega arith)
-        go false r = rw (r, opened)
+    missing-open e =
+        let none = span-missing (begins key (drop at text)) (length key) (before 10 (drop at text)) (told (rw rest-of at q) e) in
+        rw (on-cursor (not-false t stood)) (rw (none, opened))
 
     module _ (a e : ℕ) (g : x ≡ At a e) where
       here : spanOf key (drop at text) ≡ At a e
-      here = sym (rw rest-of at q) ∙ g
+      here = told (rw rest-of at q) g
 
       pub at-open : openedOf text (Open (at + a) (at + e) k) ≡ opened key (cursorOf text p)
       unfolding openedOf opened
       at-open = rw (on-cursor (not-false t stood)) (ap₂ (λ (f r : List ℕ). found f r k) bytes-of rest ∙ sym opening)
         where
-          here-at : (length key ≡ a) × (before 10 (drop at text) ≡ e) × (a ≤ e) × (e < length (drop at text))
-          here-at = spanned key (drop at text) a e here
+          spans : (begins key (drop at text) ≡ true) × (length key ≡ a) × (before 10 (drop at text) ≡ e) × (a ≤ e) × (e < length (drop at text))
+          spans = spanned key (drop at text) a e here
 
           opening : opened key (on (drop at text) k) ≡ found (drop a (take e (drop at text))) (drop (e + 1) (drop at text)) k
-          opening = rw (span-test key (drop at text) a e here, opened) (rw (here-at .0, here-at .1))
+          opening = rw (spans .0, opened) (rw (spans .1, spans .2))
 
           bytes-of : part (at + a) (at + e) text ≡ drop a (take e (drop at text))
           bytes-of =
@@ -183,7 +172,7 @@ module _ (text : List ℕ) (p : Position) (at k : ℕ) (h : p ≡ On at k) (t : 
       at-within =
           let s = spanned key (drop at text) a e here in
           let y = stands-true text at k (told d (not-false t stood)) in
-          let l = simp length-drop at (s .3) in
+          let l = simp length-drop at (s .4) in
           (omega arith, omega arith, omega arith, y .2)
 
       pub start-fits : at + a < 2 ^ 64

@@ -66,10 +66,10 @@ module _ (stood : List (List ℕ)) (s : List ℕ) (t : Bool) (q : t ≡ isName s
 -- As a call answered it.
 module _ (x : Field (List ℕ)) (s : List ℕ) (r : NameField) (e : nameOf s r ≡ x) where
   pub name-fresh : r ≡ Fresh → is s ≡ x
-  name-fresh h = sym (ap (nameOf s) h) ∙ e
+  name-fresh h = told (ap (nameOf s) h) e
 
   pub name-bad : (n : ℕ) → r ≡ Bad n → bad n ≡ x
-  name-bad n h = sym (ap (nameOf s) h) ∙ e
+  name-bad n h = told (ap (nameOf s) h) e
 
 -- ---- one name more
 
