@@ -23,8 +23,8 @@ fn is_passed(tags: &[u32; 4096], m: u32, a: usize, b: usize, sender: u32, receiv
     requires { ⌜ (a < 128) × (b < 128) × (m ≤ 32) ⌝ }
     ensures { λ r. ⌜ r ≡ every m (λ i. agrees sender receiver (getD (now (tags .entry)) (a * m + i) 0) (getD (now (tags .entry)) (b * m + i) 0) i) ⌝ }
 {
-    let from = population::row_start(a as u32, m);
-    let to = population::row_start(b as u32, m);
+    let from = arrays::row_start(a as u32, m);
+    let to = arrays::row_start(b as u32, m);
     let mut passed = true;
     let mut i: u32 = 0;
     while i < m {
@@ -61,11 +61,11 @@ pub fn send<'a>(
     if !population::is_well_formed(row, next, live, serials, templates, labels, tags) {
         return Answer::Refused(population::BAD_STATE);
     }
-    let a = population::place_of(serials, live, from);
+    let a = arrays::place_of(serials, live, from);
     if live <= a {
         return Answer::Refused(population::NOT_LIVE);
     }
-    let b = population::place_of(serials, live, to);
+    let b = arrays::place_of(serials, live, to);
     if live <= b {
         return Answer::Refused(population::NOT_LIVE);
     }

@@ -73,7 +73,7 @@ pub fn raise<'a>(
     if !population::is_well_formed(row, next, live, serials, templates, labels, tags) {
         return Answer::Refused(population::BAD_STATE);
     }
-    let k = population::place_of(serials, live, serial);
+    let k = arrays::place_of(serials, live, serial);
     if live <= k {
         return Answer::Refused(population::NOT_LIVE);
     }
@@ -108,7 +108,7 @@ pub fn lower<'a>(
     if !population::is_well_formed(row, next, live, serials, templates, labels, tags) {
         return Answer::Refused(population::BAD_STATE);
     }
-    let k = population::place_of(serials, live, serial);
+    let k = arrays::place_of(serials, live, serial);
     if live <= k {
         return Answer::Refused(population::NOT_LIVE);
     }

@@ -8,6 +8,7 @@ use mathlib.Core.List.{List, map}
 use native.Mathlib.Omega.{arith}
 use lib.ListN.{length, getD}
 use lib.Dec.{ltb, leb}
+use lib.Pow.{pow-pos, pow-mono}
 use mir.Val.{Fits}
 use mir.Syntax.{w32, w64}
 use borrow.Author.Tests.{leb-true, ltb-true, le-ltb, lt-ltb, le-leb, lt-leb, not-true, not-false}
@@ -93,6 +94,17 @@ pub fitting-count : (plan : Plan) → planFits plan ≡ true → plan .count ≤
 unfolding planFits
 fitting-count plan e =
     leb-true (plan .count) 64 (and-left (leb (plan .count) 64) _ (and-right (ltb 0 (plan .count)) _ (and-left (ltb 0 (plan .count) && (leb (plan .count) 64 && leb (plan .identifiers) 32)) _ e)))
+
+-- The greatest mask of m identifiers.
+module _ (m r : ℕ) (h : m ≤ 32) (e : r ≡ 2 ^ m) where
+  pub mask-some : 1 ≤ r
+  mask-some = let q = pow-pos m in omega arith
+
+  pub mask-top : Fits w32 (r - 1)
+  mask-top = let q : 2 ^ m ≤ 2 ^ 32 = pow-mono h in let s = mask-some in omega arith
+
+  pub mask-next : r - 1 + 1 ≡ 2 ^ m
+  mask-next = let s = mask-some in omega arith
 
 at-most : (x t w : ℕ) → t + 1 ≡ w → leb x t ≡ ltb x w
 at-most x t w e =

@@ -1,5 +1,3 @@
-pub mod Rows
-pub mod Loops
 pub mod Fits
 pub mod Lent
 pub mod RowFits

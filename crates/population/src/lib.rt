@@ -1,17 +1,16 @@
-// The plan's row and the arrays that hold the live processes: the test of refusal 20, where a serial stands, and the loops that read and
-// write a row of tags. No test here leaves a loop early, so that they run on vectors.
+// The test of refusal 20, on the plan's row and the arrays that hold the live processes. It leaves no loop early, so that
+// the loops run on vectors.
 ghost use mathlib.Core.Path.{_≡_};
-ghost use Prim.Native.Nat.{ℕ, _<_, _≤_, _+_, _-_, _*_, _^_, min};
+ghost use Prim.Native.Nat.{_<_, _≤_, _+_, _-_, _^_};
 ghost use lib.ListN.{getD, length};
-ghost use lib.Dec.{ltb, eqb, leb};
-ghost use Rattle.lists.specs.Numbers.{every, all, lowest, tabulate};
+ghost use lib.Dec.{ltb, leb};
+ghost use Rattle.lists.specs.Numbers.{every, all};
 ghost use Rattle.plan.specs.Plan.{successors};
 ghost use Rattle.planrow.specs.Row.{formOf, templateIn};
 ghost use Rattle.planrow.specs.Lookup.{planFor};
 ghost use Rattle.machine.specs.Machine.{boxLimits, templateFits, planFits, wellFormed};
 ghost use Rattle.machine.specs.State.{machineFrom};
-ghost use Rattle.lists.specs.Writes.{written};
-ghost use Rattle.population.specs.Arrays.{cells, arraysFit, shifted, childTag};
+ghost use Rattle.population.specs.Arrays.{cells, arraysFit};
 
 // Document 01's numbers of the refusals of step, send, raise and lower.
 pub const BAD_STATE: u8 = 20;
@@ -90,32 +89,6 @@ fn is_rising(xs: &[u32], n: usize) -> bool
     fits
 }
 
-// The lesser of two numbers.
-fn least(a: usize, b: usize) -> usize
-    ensures { λ r. ⌜ (r ≡ min a b) × (r ≤ a) × (r ≤ b) ⌝ }
-{
-    if a < b { a } else { b }
-}
-
-// The place of a serial among the first n, and n where none has it.
-pub fn place_of(serials: &[u32], n: usize, serial: u32) -> usize
-    ensures { λ r. ⌜ r ≡ lowest n (λ i. eqb (getD (now (serials .entry)) i 0) serial) ⌝ }
-{
-    let end = least(n, serials.len());
-    let mut i: usize = 0;
-    while i < end {
-        if serials[i] == serial {
-            return i;
-        }
-        i += 1;
-    }
-    // Past the end stands 0.
-    if serial == 0 {
-        return end;
-    }
-    n
-}
-
 // How many masks there are over m identifiers.
 fn mask_count(m: u32) -> u64
     requires { ⌜ m ≤ 32 ⌝ }
@@ -130,13 +103,6 @@ fn full_mask(m: u32) -> u32
     ensures { λ r. ⌜ r + 1 ≡ 2 ^ m ⌝ }
 {
     (mask_count(m) - 1) as u32
-}
-
-// Where the tags of a place begin, of m identifiers.
-pub fn row_start(place: u32, m: u32) -> usize
-    ensures { λ r. ⌜ r ≡ place * m ⌝ }
-{
-    (place as usize) * (m as usize)
 }
 
 fn wide(x: u32) -> u64
@@ -213,7 +179,7 @@ fn arrays_fit<'a>(
         ⌜ r ≡ arraysFit count m next live c ⌝ }
 {
     let top = full_mask(m);
-    let used = row_start(live as u32, m);
+    let used = arrays::row_start(live as u32, m);
     is_rising(serials, live)
         & (all_below(serials, live, next)
             & (all_below_u8(templates, live, count)
@@ -243,101 +209,4 @@ pub fn is_well_formed<'a>(
     let n = row[0];
     let m = row[1];
     arrays_fit(n as u8, m, next, live, serials, templates, labels, tags)
-}
-
-// How many are left of n without the last `by`.
-fn left(n: usize, by: usize) -> usize
-    ensures { λ r. ⌜ r ≡ n - by ⌝ }
-{
-    if by < n { n - by } else { 0 }
-}
-
-// Brings what stands `by` places further on down to from..to.
-fn slide(xs: &mut [u32], from: usize, to: usize, by: usize)
-    requires { ⌜ (from ≤ to) × (to ≤ length (now xs) - by) ⌝ }
-    ensures { λ _. ⌜ ((j : ℕ) → getD (now (xs .exit)) j 0 ≡ shifted (now (xs .entry)) from to by j) ⌝ }
-{
-    let mut i = from;
-    while i < to {
-        xs[i] = xs[i + by];
-        i += 1;
-    }
-}
-
-fn slide_u8(bytes: &mut [u8], from: usize, to: usize, by: usize)
-    requires { ⌜ (from ≤ to) × (to ≤ length (now bytes) - by) ⌝ }
-    ensures { λ _. ⌜ ((j : ℕ) → getD (now (bytes .exit)) j 0 ≡ shifted (now (bytes .entry)) from to by j) ⌝ }
-{
-    let mut i = from;
-    while i < to {
-        bytes[i] = bytes[i + by];
-        i += 1;
-    }
-}
-
-// The same for any numbers: nothing is brought from past the end.
-pub fn shift(xs: &mut [u32], from: usize, to: usize, by: usize)
-    ensures { λ _. ⌜ ((j : ℕ) → getD (now (xs .exit)) j 0 ≡ shifted (now (xs .entry)) from (min to (length (now (xs .entry)) - by)) by j) ⌝ }
-{
-    let end = least(to, left(xs.len(), by));
-    slide(xs, least(from, end), end, by);
-}
-
-pub fn shift_u8(bytes: &mut [u8], from: usize, to: usize, by: usize)
-    ensures { λ _. ⌜ ((j : ℕ) → getD (now (bytes .exit)) j 0 ≡ shifted (now (bytes .entry)) from (min to (length (now (bytes .entry)) - by)) by j) ⌝ }
-{
-    let end = least(to, left(bytes.len(), by));
-    slide_u8(bytes, least(from, end), end, by);
-}
-
-// The 32 tags from a place on.
-fn copy_tags(tags: &[u32; 4096], from: usize) -> [u32; 32]
-    requires { ⌜ from + 32 ≤ 4096 ⌝ }
-    ensures { λ r. ⌜ r ≡ tabulate 32 (λ i. getD (now (tags .entry)) (from + i) 0) ⌝ }
-{
-    let mut row = [0u32; 32];
-    let mut i: usize = 0;
-    while i < 32 {
-        row[i] = tags[from + i];
-        i += 1;
-    }
-    row
-}
-
-// The same for any place: the last 32 where fewer stand there.
-pub fn copy_row(tags: &[u32; 4096], from: usize) -> [u32; 32]
-    ensures { λ r. ⌜ r ≡ tabulate 32 (λ i. getD (now (tags .entry)) (min from 4064 + i) 0) ⌝ }
-{
-    copy_tags(tags, least(from, 4064))
-}
-
-// Document 01: "its parent's tags, and its own serial as tag of each identifier Y creates".
-fn child_tag(serial: u32, creates: u32, parent: u32, i: u32) -> u32
-    requires { ⌜ i < 32 ⌝ }
-    ensures { λ r. ⌜ r ≡ childTag serial creates parent i ⌝ }
-{
-    if mask::contains_u32(creates, i) {
-        serial
-    } else {
-        parent
-    }
-}
-
-// Writes the 32 tags of a child from a place on.
-fn write_tags(tags: &mut [u32], from: usize, parent: [u32; 32], creates: u32, serial: u32)
-    requires { ⌜ from + 32 ≤ length (now tags) ⌝ }
-    ensures { λ _. ⌜ ((j : ℕ) → getD (now (tags .exit)) j 0 ≡ written (now (tags .entry)) from 32 (λ i. childTag serial creates (getD parent i 0) i) j) ⌝ }
-{
-    let mut i: usize = 0;
-    while i < 32 {
-        tags[from + i] = child_tag(serial, creates, parent[i], i as u32);
-        i += 1;
-    }
-}
-
-// The same for any place: at the last 32 where fewer are there.
-pub fn write_row(tags: &mut [u32; 4096], from: usize, parent: [u32; 32], creates: u32, serial: u32)
-    ensures { λ _. ⌜ ((j : ℕ) → getD (now (tags .exit)) j 0 ≡ written (now (tags .entry)) (min from 4064) 32 (λ i. childTag serial creates (getD parent i 0) i) j) ⌝ }
-{
-    write_tags(tags, least(from, 4064), parent, creates, serial);
 }

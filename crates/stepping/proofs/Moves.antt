@@ -18,9 +18,10 @@ use Rattle.machine.specs.Machine.{Process}
 use Rattle.machine.specs.State.{Cells, placed, processesOf}
 use Rattle.lists.specs.Writes.{written}
 use Rattle.lists.proofs.Written.{written-in, written-below}
-use Rattle.population.specs.Arrays.{cells, shifted, childTag}
-use Rattle.population.proofs.Rows.{row-room, row-under, row-over}
-use Rattle.population.proofs.Loops.{shifts-all, shifted-in, shifted-below}
+use Rattle.arrays.specs.Places.{shifted, childTag}
+use Rattle.population.specs.Arrays.{cells}
+use Rattle.arrays.proofs.Rows.{row-room, row-under, row-over}
+use Rattle.arrays.proofs.Loops.{shifts-all, shifted-in, shifted-below}
 use Rattle.stepping.specs.declared.Stepped.{Stepped}
 use Rattle.stepping.specs.Stepping.{skipping, newborn, newborns, goesOn, Room, Advanced}
 

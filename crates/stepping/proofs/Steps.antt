@@ -27,7 +27,7 @@ use Rattle.machine.specs.Machine.{Process, step, boxLimits, wellFormed, tag, re
 use Rattle.machine.specs.State.{Cells, placed, processesOf, machineFrom}
 use Rattle.machine.proofs.Places.{remove-at}
 use Rattle.machine.proofs.Templates.{children-fit}
-use Rattle.population.specs.Arrays.{childTag}
+use Rattle.arrays.specs.Places.{childTag}
 use Rattle.machine.specs.State.{ifRefused}
 use Rattle.population.specs.Lent.{Same, Did, answerFor}
 use Rattle.population.proofs.Fits.{length-processes, formed-live, formed-plan, formed-count, formed-template, formed-successors, plan-few}

@@ -18,7 +18,7 @@ use Rattle.machine.specs.declared.Answer.{Answer}
 use Rattle.machine.specs.declared.Answer.the-variants.{Done, Refused}
 use Rattle.machine.specs.Machine.{Process, refuseIf, branchFits}
 use Rattle.machine.specs.State.{Cells, placed, processesOf}
-use Rattle.population.specs.Arrays.{childTag}
+use Rattle.arrays.specs.Places.{childTag}
 use Rattle.stepping.specs.declared.Stepped.{Stepped}
 
 -- The mask of the identifiers that offend against rule 12, 13 or 16.

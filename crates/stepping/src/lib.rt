@@ -152,12 +152,12 @@ fn leave<'a>(
         let d = cells (now (serials .exit)) (now (templates .exit)) (now (labels .exit)) (now (tags .exit)) in
         ⌜ processesOf m last d ≡ tabulate last (skipping k (placed m c)) ⌝ }
 {
-    population::shift(serials, k, last, 1);
-    population::shift_u8(templates, k, last, 1);
-    population::shift(labels, k, last, 1);
-    let from = population::row_start(k as u32, m);
-    let to = population::row_start(last as u32, m);
-    population::shift(tags, from, to, m as usize);
+    arrays::shift(serials, k, last, 1);
+    arrays::shift_u8(templates, k, last, 1);
+    arrays::shift(labels, k, last, 1);
+    let from = arrays::row_start(k as u32, m);
+    let to = arrays::row_start(last as u32, m);
+    arrays::shift(tags, from, to, m as usize);
 }
 
 // A child at template y comes to the place after the others; row holds its parent's tags.
@@ -183,8 +183,8 @@ fn enter<'a>(
     put(serials, at, serial);
     put_u8(templates, at, y);
     put(labels, at, lab);
-    let from = population::row_start(at as u32, m);
-    population::write_row(tags, from, row, creates, serial);
+    let from = arrays::row_start(at as u32, m);
+    arrays::write_row(tags, from, row, creates, serial);
 }
 
 // The process at place k goes, and its one child comes.
@@ -206,8 +206,8 @@ fn replace<'a>(
         let d = cells (now (serials .exit)) (now (templates .exit)) (now (labels .exit)) (now (tags .exit)) in
         ⌜ processesOf m (last + 1) d ≡ tabulate last (skipping k (placed m c)) ++ (newborn m (placed m c k .tags) serial y (t .lab) (t .creates) ∷ []) ⌝ }
 {
-    let from = population::row_start(k as u32, m);
-    let row = population::copy_row(tags, from);
+    let from = arrays::row_start(k as u32, m);
+    let row = arrays::copy_row(tags, from);
     leave(m, k, last, serials, templates, labels, tags);
     enter(
         m,
@@ -245,8 +245,8 @@ fn fork<'a>(
         let d = cells (now (serials .exit)) (now (templates .exit)) (now (labels .exit)) (now (tags .exit)) in
         ⌜ processesOf m (last + 1 + 1) d ≡ (tabulate last (skipping k (placed m c)) ++ (newborn m (placed m c k .tags) serial y (t .lab) (t .creates) ∷ [])) ++ (newborn m (placed m c k .tags) (serial + 1) z (u .lab) (u .creates) ∷ []) ⌝ }
 {
-    let from = population::row_start(k as u32, m);
-    let row = population::copy_row(tags, from);
+    let from = arrays::row_start(k as u32, m);
+    let row = arrays::copy_row(tags, from);
     replace(m, k, last, serial, y, t, serials, templates, labels, tags);
     enter(
         m,
@@ -417,7 +417,7 @@ pub fn step<'a>(
     if !population::is_well_formed(row, next, live, serials, templates, labels, tags) {
         return refused(population::BAD_STATE, next, live);
     }
-    let k = population::place_of(serials, live, serial);
+    let k = arrays::place_of(serials, live, serial);
     if live <= k {
         return refused(population::NOT_LIVE, next, live);
     }

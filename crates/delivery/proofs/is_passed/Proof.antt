@@ -6,7 +6,7 @@ use lib.ListN.{getD}
 use borrow.Author.Needs.{needs}
 use Rattle.lists.specs.Numbers.{every}
 use Rattle.lists.proofs.Every.{every-none}
-use Rattle.population.proofs.Rows.{row-at, row-fits, row-scaled}
+use Rattle.arrays.proofs.Rows.{row-at, row-fits, row-scaled}
 use Rattle.delivery.specs.Delivery.{agrees}
 use Rattle.delivery.proofs.Sends.{passed-more}
 use Rattle.delivery.proofs.is_passed.Statement.{statement}

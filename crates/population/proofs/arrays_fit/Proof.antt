@@ -1,7 +1,7 @@
 -- The five tests are the definition's, the masks' limit and the tags' count as the code has them.
 use borrow.Author.Needs.{needs}
 use Rattle.population.proofs.Fits.{arrays-gathered}
-use Rattle.population.proofs.Rows.{rows-there}
+use Rattle.arrays.proofs.Rows.{rows-there}
 use Rattle.population.proofs.arrays_fit.Statement.{statement}
 use Rattle.population.proofs.arrays_fit.Tie as tie
 

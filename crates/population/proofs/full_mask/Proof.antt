@@ -1,6 +1,6 @@
 -- There is a mask, and all of them fit.
 use borrow.Author.Needs.{needs}
-use Rattle.population.proofs.Rows.{mask-some, mask-top, mask-next}
+use Rattle.population.proofs.Fits.{mask-some, mask-top, mask-next}
 use Rattle.population.proofs.full_mask.Statement.{statement}
 use Rattle.population.proofs.full_mask.Tie as tie
 

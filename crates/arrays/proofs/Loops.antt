@@ -13,7 +13,7 @@ use Rattle.lists.specs.Numbers.{any, lowest}
 use Rattle.lists.proofs.Tests.{lt-or-le}
 use Rattle.lists.proofs.Every.{any-at, any-of}
 use Rattle.lists.proofs.Lowest.{lowest-hit, lowest-end}
-use Rattle.population.specs.Arrays.{shifted}
+use Rattle.arrays.specs.Places.{shifted}
 
 -- ---- a serial that is not among those of the list
 

@@ -1,11 +1,10 @@
 -- Where a row of tags lies: M tags for each of at most 128 places, M at most 32.
-use Prim.Native.Nat.{ℕ, suc, _+_, _-_, _*_, _^_, _≤_, _<_}
+use Prim.Native.Nat.{ℕ, suc, _+_, _*_, _≤_, _<_}
 use mathlib.Core.Path.{_≡_}
 use mathlib.Core.List.{List}
 use lib.ListN.{length}
 use native.Mathlib.Nat.{mul-le-mul, suc-mul, le-refl}
 use native.Mathlib.Omega.{arith}
-use lib.Pow.{pow-pos, pow-mono}
 use mir.Val.{Fits}
 use mir.Syntax.{w32, w64}
 
@@ -38,14 +37,3 @@ module _ (p m r i : ℕ) (e : r ≡ p * m) (h : p < 128) (l : m ≤ 32) (k : i <
 
   pub row-scaled : Fits w64 ((r + i) * 4)
   row-scaled = let q = row-at in omega arith
-
--- The greatest mask of m identifiers.
-module _ (m r : ℕ) (h : m ≤ 32) (e : r ≡ 2 ^ m) where
-  pub mask-some : 1 ≤ r
-  mask-some = let q = pow-pos m in omega arith
-
-  pub mask-top : Fits w32 (r - 1)
-  mask-top = let q : 2 ^ m ≤ 2 ^ 32 = pow-mono h in let s = mask-some in omega arith
-
-  pub mask-next : r - 1 + 1 ≡ 2 ^ m
-  mask-next = let s = mask-some in omega arith

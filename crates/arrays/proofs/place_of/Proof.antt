@@ -10,9 +10,9 @@ use borrow.Author.Needs.{needs}
 use Rattle.lists.specs.Numbers.{any}
 use Rattle.lists.proofs.Every.{any-none, any-more}
 use Rattle.lists.proofs.Lowest.{lowest-hit}
-use Rattle.population.proofs.Loops.{place-zero, place-none}
-use Rattle.population.proofs.place_of.Statement.{statement}
-use Rattle.population.proofs.place_of.Tie as tie
+use Rattle.arrays.proofs.Loops.{place-zero, place-none}
+use Rattle.arrays.proofs.place_of.Statement.{statement}
+use Rattle.arrays.proofs.place_of.Tie as tie
 
 abbrev Inv-loop : tie.InvT-loop
 Inv-loop serials n serial end i₀ i = (i ≤ end) × (any i (λ k. eqb (getD serials k 0) serial) ≡ false)
