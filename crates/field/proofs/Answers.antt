@@ -6,7 +6,7 @@ use mathlib.Core.List.{List}
 use native.Mathlib.Omega.{arith}
 use Rattle.plan.specs.declared.Form.{Form}
 use Rattle.plan.specs.declared.Kind.{Kind}
-use Rattle.scan.proofs.Ways.{told}
+use Rattle.lists.proofs.Tests.{told}
 use Rattle.field.specs.Fields.{Field, is, bad, number}
 use Rattle.field.specs.Answers.{numberOf, formOf, riskOf, kindOf}
 use Rattle.field.specs.declared.NumberField.{NumberField}

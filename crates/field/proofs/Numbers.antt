@@ -11,8 +11,7 @@ use lib.ListN.{length, getD, drop, drop-of-length-le}
 use lib.Dec.{ltb, eqb}
 use lib.Pow.{pow-pos, pow-mono, split}
 use borrow.Author.Tests.{ltb-true, eqb-true, eqb-false, eq-eqb, ne-eqb, le-leb, lt-leb, lt-ltb, le-ltb}
-use Rattle.lists.proofs.Tests.{lt-or-le}
-use Rattle.scan.proofs.Ways.{told}
+use Rattle.lists.proofs.Tests.{lt-or-le, told}
 use Rattle.scan.proofs.Steps.{at-place}
 use Rattle.field.specs.Fields.{Field, is, bad, andThen, digit, digits, decimal, number, mask}
 use Rattle.field.specs.Answers.{numberOf}

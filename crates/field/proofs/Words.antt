@@ -14,7 +14,7 @@ use Rattle.plan.specs.declared.Form.the-variants.{Go}
 use Rattle.plan.specs.declared.Kind.{Kind}
 use Rattle.plan.specs.declared.Kind.the-variants.{Secrecy, Prot}
 use Rattle.scan.specs.Bytes.{before}
-use Rattle.scan.proofs.Ways.{told}
+use Rattle.lists.proofs.Tests.{told}
 use Rattle.scan.proofs.Parts.{rest-of, first-of}
 use Rattle.scan.proofs.Steps.{at-place}
 use Rattle.field.proofs.Numbers.{decimal-none, digits-below}

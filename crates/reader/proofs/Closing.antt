@@ -7,10 +7,9 @@ use mathlib.Core.List.{List}
 use lib.ListN.{length, drop-of-length-le}
 use lib.Dec.{leb}
 use borrow.Author.Tests.{le-leb, lt-leb, leb-true}
-use Rattle.lists.proofs.Tests.{and-left, and-right, lt-or-le}
+use Rattle.lists.proofs.Tests.{and-left, and-right, lt-or-le, told}
 use Rattle.plan.specs.declared.Plan.{Plan}
 use Rattle.plan.specs.declared.Policy.{Policy}
-use Rattle.scan.proofs.Ways.{told}
 use Rattle.scan.proofs.Steps.{at-place}
 use Rattle.text.specs.Reading.{longest, on, plan, policy, closed, checked, ifComplete, noPlan, noPolicy, readPlan, readPolicy}
 use Rattle.text.specs.Cursors.{stands, cursorOf, stepOf}

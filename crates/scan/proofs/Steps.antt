@@ -10,7 +10,7 @@ use lib.Seq.{drop-cons}
 use lib.Dec.{eqb}
 use borrow.Author.Tests.{eq-eqb, ne-eqb}
 use Rattle.scan.specs.Bytes.{before, startsWith, same}
-use Rattle.scan.proofs.Ways.{told}
+use Rattle.lists.proofs.Tests.{told}
 
 -- The list from a place on: its byte, and what follows.
 pub at-place : (s : List ℕ) (i : ℕ) → i < length s → drop i s ≡ getD s i 0 ∷ drop (i + 1) s

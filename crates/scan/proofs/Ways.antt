@@ -1,10 +1,7 @@
 -- The ways through a definition that picks by tests, for `search`: each law turns what the code has shown into one case.
-use mathlib.Core.Path.{_≡_, sym, _∙_}
+use mathlib.Core.Path.{_≡_}
 use mathlib.Core.Bool.{Bool, true, false, cond}
-
--- What a call answered, and what is known of the answer.
-pub told : {A : Type 0} {r x v : A} → r ≡ x → r ≡ v → x ≡ v
-told e h = sym e ∙ h
+use Rattle.lists.proofs.Tests.{told}
 
 -- A test that a call answered.
 module _ {A : Type 0} (x y z : A) (b t : Bool) (f : t ≡ b) where

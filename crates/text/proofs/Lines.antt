@@ -10,9 +10,8 @@ use lib.Seq.{drop-drop}
 use lib.Dec.{leb, ltb}
 use Prim.Native.String.{String}
 use borrow.Author.Tests.{lt-ltb, le-ltb, ltb-true, lt-leb, le-leb, leb-true, not-true, not-false}
-use Rattle.lists.proofs.Tests.{and-both, and-three}
+use Rattle.lists.proofs.Tests.{and-both, and-three, told}
 use Rattle.scan.specs.Bytes.{bytes, before, startsWith}
-use Rattle.scan.proofs.Ways.{told}
 use Rattle.scan.proofs.Parts.{rest-of, first-of, drop-take}
 use Rattle.scan.proofs.Steps.{starts-long}
 use Rattle.field.specs.Fields.{Field, is, bad, andThen}

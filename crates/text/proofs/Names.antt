@@ -10,7 +10,7 @@ use lib.ListN.{length, getD, set, List·getD-eq-default}
 use lib.Seq.{getD-set-same, getD-set-other}
 use borrow.Author.Tests.{not-true, not-false}
 use Rattle.scan.specs.Bytes.{same, standsIn}
-use Rattle.scan.proofs.Ways.{told}
+use Rattle.lists.proofs.Tests.{told}
 use Rattle.field.specs.Fields.{Field, is, bad, name}
 use Rattle.field.specs.Answers.{isName}
 use Rattle.text.specs.Cursors.{part, namesOf, nameOf}
