@@ -74,8 +74,8 @@ fn print_process(state: State, place: usize) {
     console::print(b" tags=");
     print_tags(
         &state.tags,
-        population::row_start(place as u32, m),
-        population::row_start(place as u32 + 1, m),
+        arrays::row_start(place as u32, m),
+        arrays::row_start(place as u32 + 1, m),
     );
     console::print(b"\n");
 }
