@@ -1,5 +1,5 @@
 -- What a loop that stores into a list leaves at each place.
--- Not to be believed: contracts of private functions alone name it.
+-- Not to be believed: nothing is stated of an operation by it alone.
 use Prim.Native.Nat.{ℕ, _+_, _-_}
 use mathlib.Core.Bool.{_&&_, cond}
 use mathlib.Core.List.{List}
