@@ -1,12 +1,11 @@
 -- What a call did over the row of a plan, it did over the plan: the row lacks only what stands past N.
 use Prim.Native.Nat.{ℕ, min, _≤_, _<_}
-use mathlib.Core.Path.{_≡_, refl, sym, ap, ap₂, _∙_, subst}
-use mathlib.Core.Bool.{Bool, true, false, _&&_}
-use mathlib.Core.Logic.{inl, inr, ⊎-elim}
-use mathlib.Core.List.{List, [], _∷_}
+use mathlib.Core.Path.{_≡_, refl, sym, ap, _∙_, subst}
+use mathlib.Core.Bool.{Bool, true, false}
+use mathlib.Core.Logic.{inl, inr}
+use mathlib.Core.List.{List, _∷_}
 use native.Mathlib.Omega.{arith}
 use lib.Dec.{ltb}
-use lib.ListN.{getD}
 use borrow.Author.Tests.{ltb-true}
 use Rattle.lists.specs.Numbers.{all}
 use Rattle.lists.proofs.Tests.{and-left, and-right}
@@ -22,7 +21,7 @@ use Rattle.machine.specs.declared.Answer.the-variants.{Done, Delivered, Held, R
 use Rattle.machine.specs.Machine.{Machine, Outcome, Call, boxLimits, planFits, run}
 use Rattle.machine.specs.State.{Cells, processesOf, machineFrom, ifRefused}
 use Rattle.machine.proofs.Templates.{successors-fit}
-use Rattle.machine.proofs.Alike.{Alike, onPlan, outcomeOn, fits-alike, run-alike}
+use Rattle.machine.proofs.Alike.{Alike, outcomeOn, fits-alike, run-alike}
 use Rattle.population.specs.Lent.{outcomeFrom, Same, Did}
 use Rattle.population.proofs.Fits.{fitting-count}
 use Rattle.population.proofs.RowFits.{unfit-not}

@@ -1,8 +1,8 @@
 -- Refusal 20 in the arrays' own terms, as the code meets it: each callee's result is a variable, and what it ensures a
 -- premise.
-use Prim.Native.Nat.{ℕ, zero, suc, _+_, _-_, _*_, _^_, _≤_, _<_}
-use mathlib.Core.Path.{_≡_, refl, sym, ap, ap₂, _∙_, fun-ext}
-use mathlib.Core.Bool.{Bool, true, false, not, _&&_, _||_, and-true}
+use Prim.Native.Nat.{ℕ, _+_, _-_, _*_, _^_, _≤_, _<_}
+use mathlib.Core.Path.{_≡_, sym, ap, ap₂, _∙_, fun-ext}
+use mathlib.Core.Bool.{Bool, true, false, not, _&&_}
 use mathlib.Core.Logic.{⊎-elim}
 use mathlib.Core.List.{List, map}
 use native.Mathlib.Omega.{arith}
@@ -11,15 +11,14 @@ use lib.Dec.{ltb, leb}
 use lib.Pow.{pow-pos, pow-mono}
 use mir.Val.{Fits}
 use mir.Syntax.{w32, w64}
-use borrow.Author.Tests.{leb-true, ltb-true, le-ltb, lt-ltb, le-leb, lt-leb, not-true, not-false}
+use borrow.Author.Tests.{leb-true, ltb-true, le-ltb, lt-ltb, le-leb, lt-leb, not-false}
 use Rattle.lists.specs.Numbers.{every, all, tabulate}
 use Rattle.lists.proofs.Tests.{lt-or-le, and-left, and-right}
 use Rattle.lists.proofs.Every.{every-at, every-acc, every-ext, every-and, every-rows}
 use Rattle.lists.proofs.Tabulate.{length-tabulate, all-tabulate}
 use Rattle.plan.specs.declared.Plan.{Plan}
 use Rattle.plan.specs.Plan.{at, successors}
-use Rattle.plan.specs.Listed.{listFor}
-use Rattle.machine.specs.Machine.{boxLimits, templateFits, planFits, processFits, rising, populationFits, wellFormed}
+use Rattle.machine.specs.Machine.{boxLimits, planFits, processFits, rising, populationFits, wellFormed}
 use Rattle.machine.specs.State.{Cells, placed, processesOf, machineFrom}
 use Rattle.machine.proofs.Places.{rising-places}
 use Rattle.machine.proofs.Templates.{successors-fit}

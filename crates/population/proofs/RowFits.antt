@@ -12,7 +12,6 @@ use borrow.Author.Tests.{le-ltb, lt-ltb, le-leb, lt-leb, not-true, not-false}
 use Rattle.lists.specs.Numbers.{every, all}
 use Rattle.lists.proofs.Every.{every-ext}
 use Rattle.plan.specs.declared.Template.{Template}
-use Rattle.plan.specs.declared.Plan.{Plan}
 use Rattle.plan.specs.Plan.{at, successors}
 use Rattle.planrow.specs.Row.{wordAt, formOf, templateIn, isPlan}
 use Rattle.planrow.specs.Lookup.{blankPlan, planFor, templateAt}

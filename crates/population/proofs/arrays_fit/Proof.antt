@@ -30,7 +30,14 @@ all-below-requires-2 : tie.Need-all-below-requires-2
 all-below-requires-2 c κs = search rows-there
 
 returns : tie.Need-returns
-returns c = search arrays-gathered
+returns c =
+    let labels = c .before .before in
+    let templates = labels .before .before in
+    let serials = templates .before .before in
+    let rises = serials .before .before in
+    let rows = rises .before .before in
+    arrays-gathered _ _ _ _ _ _ _ _ _ _ _ _ _ _ _ (rows .before .full-mask .ensures) (rows .row-start .ensures)
+    (rises .is-rising .ensures) (serials .all-below .ensures) (templates .all-below-u8 .ensures) (labels .none-above .ensures) (c .all-below2 .ensures)
 
 pub arrays-fit-spec : {M : Type 1} → statement M
 arrays-fit-spec =

@@ -47,7 +47,7 @@ loop-again : tie.Need-loop-again Inv-loop μ-loop
 loop-again c = (omega arith, every-acc _ _ _ (c .before .before .before .loop .inv .1))
 
 returns : tie.Need-returns Inv-loop μ-loop
-returns c = let e : c .before .loop .i ≡ c .before .before .args .n - 1 = omega arith in cc
+returns c = let e : c .before .loop .i ≡ c .before .before .args .n - 1 = omega arith in rw e at (c .before .loop .inv .1)
 
 pub is-rising-spec : {M : Type 1} → statement M
 is-rising-spec =
