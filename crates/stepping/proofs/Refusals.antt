@@ -24,6 +24,12 @@ use Rattle.stepping.specs.Stepping.{offending, fitting, allFitting, refu
 
 -- ---- 25
 
+pub offences-gathered : (label : ℕ) (t : Template) (missing left kept : ℕ) → missing ≡ without (t .lab) (bitOr label (t .pos))
+    → left ≡ without label (t .neg) → kept ≡ without left (t .lab) → bitOr missing (bitOr kept (bitAnd (t .creates) label)) ≡ offending label t
+unfolding offending
+offences-gathered label t missing left kept em el ek =
+    ap₂ (λ (x y : ℕ). bitOr x (bitOr y (bitAnd (t .creates) label))) em (ek ∙ ap (λ (x : ℕ). without x (t .lab)) el)
+
 -- A lowest item that is not below M: none is.
 none-below : (M : ℕ) (p : ℕ → Bool) → M ≤ 32 → leb M (lowest 32 p) ≡ every M (λ i. not (p i))
 none-below M p few =

@@ -1,7 +1,7 @@
 -- The whole step: the parts are the machine's.
 use Prim.Native.Nat.{ℕ, zero, suc, _+_, _-_, _*_, _≤_, _<_}
 use mathlib.Core.Path.{_≡_, refl, sym, ap, ap₂, _∙_, subst}
-use mathlib.Core.Bool.{Bool, true, false, not, _&&_, and-true, cond}
+use mathlib.Core.Bool.{Bool, true, false, not, _&&_, and-true}
 use mathlib.Core.List.{List, [], _∷_, _++_}
 use mathlib.Core.Option.{some}
 use native.Mathlib.Numerals.{add-one}
@@ -17,7 +17,6 @@ use Rattle.plan.specs.declared.Form.{Form}
 use Rattle.plan.specs.declared.Plan.{Plan}
 use Rattle.plan.specs.declared.Template.{Template}
 use Rattle.plan.specs.declared.Successors.{Successors}
-use Rattle.plan.specs.declared.Form.the-variants.{End, Go, Either, Both}
 use Rattle.plan.specs.Plan.{at, creates, successors}
 use Rattle.plan.specs.Listed.{listFor, listed}
 use Rattle.planrow.specs.Lookup.{planFor, templateAt}
@@ -30,8 +29,8 @@ use Rattle.machine.proofs.Templates.{children-fit}
 use Rattle.arrays.specs.Places.{childTag}
 use Rattle.machine.specs.State.{ifRefused}
 use Rattle.population.specs.Lent.{Same, Did, answerFor}
-use Rattle.population.proofs.Fits.{length-processes, formed-live, formed-plan, formed-count, formed-template, formed-successors, plan-few}
-use Rattle.population.proofs.RowFits.{formed-identifiers, formed-lookup}
+use Rattle.population.proofs.Fits.{length-processes, formed-live, formed-plan, formed-count, formed-template, formed-successors, plan-few, place-few, place-offset}
+use Rattle.population.proofs.RowFits.{formed-identifiers, formed-lookup, few-words, looked-at}
 use Rattle.population.proofs.Lent.{did-refused, did-same, settled-refused, settled-done, run-bad, run-formed, found-none, found-some, found-serial, alone}
 use Rattle.stepping.specs.declared.Stepped.{Stepped}
 use Rattle.stepping.specs.Stepping.{fitting, allFitting, refusalOf, skipping, newborn, newborns, stays, Room, Advanced}
@@ -190,18 +189,17 @@ all-next n (y ∷ ys) h e = all-head n ys h (and-right (ltb y n) _ e)
 
 module _ (row : List ℕ) (next live : ℕ) (c : Cells) (k : ℕ) (well : wellFormed boxLimits (machineFrom (planFor row) next live c) ≡ true) (h : k < live) where
   pub at-place : k < 128
-  at-place = let l = formed-live (planFor row) next live c well in omega arith
+  at-place = place-few (planFor row) next live c true (sym well) refl k h
 
   pub at-offset : Fits w64 (k * 4)
-  at-offset = let l = at-place in omega arith
+  at-offset = place-offset (planFor row) next live c true (sym well) refl k h
 
   pub at-identifiers : getD row 1 0 ≤ 32
-  at-identifiers =
-      subst (λ (M : ℕ). M ≤ 32) (formed-identifiers row next live c well) (plan-few (planFor row) (formed-plan (planFor row) next live c well))
+  at-identifiers = few-words row next live c true (sym well) refl
 
   module _ (t : Template) (looked : t ≡ templateAt row (getD (c .templates) k 0)) where
     found : t ≡ at (planFor row) (getD (c .templates) k 0)
-    found = looked ∙ formed-lookup row next live c well (getD (c .templates) k 0) (formed-template (planFor row) next live c well k h)
+    found = looked-at row next live c true (sym well) refl k h t looked
 
     fit : (branch : ℕ) → all (λ Y. ltb Y (planFor row .count)) (children (t .form) branch) ≡ true
     fit branch =

@@ -1,6 +1,6 @@
 -- The definition, mask by mask.
 use borrow.Author.Needs.{needs}
-use Rattle.stepping.specs.Stepping.{offending}
+use Rattle.stepping.proofs.Refusals.{offences-gathered}
 use Rattle.stepping.proofs.offences.Statement.{statement}
 use Rattle.stepping.proofs.offences.Tie as tie
 
@@ -14,8 +14,9 @@ difference-requires-3 : tie.Need-difference-requires-3
 difference-requires-3 c κs = search needs
 
 returns : tie.Need-returns
-unfolding offending
-returns c = cc
+returns c =
+    let first = c .before .before .before in
+    offences-gathered _ _ _ _ _ (first .difference .ensures) (c .before .before .difference2 .ensures) (c .before .difference3 .ensures)
 
 pub offences-spec : {M : Type 1} → statement M
 offences-spec =
