@@ -13,7 +13,7 @@ use Rattle.machine.specs.declared.Answer.{Answer}
 use Rattle.machine.specs.declared.Answer.the-variants.{Done, Delivered, Held, Refused}
 use Rattle.machine.specs.Machine.{Machine, Outcome, Call, boxLimits, run}
 use Rattle.machine.specs.declared.State.{State}
-use Rattle.machine.specs.State.{Cells, processesOf, machineFrom, machineOf, cellsOf, ifRefused}
+use Rattle.machine.specs.State.{Cells, machineFrom, machineOf, cellsOf, ifRefused}
 use Rattle.population.specs.Lent.{outcomeFrom, Same, Did}
 use Rattle.population.proofs.Fits.{length-processes}
 use Rattle.population.proofs.RowFits.{unfit-not}

@@ -1,11 +1,11 @@
 -- What start leaves, as the code meets it: `begun` is what monitor::start gave.
-use Prim.Native.Nat.{ℕ, zero, suc, _≤_, _<_}
+use Prim.Native.Nat.{ℕ, _≤_}
 use mathlib.Core.Path.{_≡_, refl, sym, ap, ap₂, _∙_, subst}
 use mathlib.Core.Logic.{_≢_}
 use mathlib.Core.List.{List, [], _∷_}
 use mathlib.Core.Option.{some}
 use native.Mathlib.Omega.{arith}
-use lib.ListN.{length, getD, replicate}
+use lib.ListN.{length}
 use Rattle.lists.specs.Numbers.{tabulate}
 use Rattle.lists.proofs.Length.{getD-same}
 use Rattle.plan.specs.declared.Template.{Template}
@@ -23,7 +23,7 @@ use Rattle.population.proofs.Fits.{length-processes}
 use Rattle.planrow.specs.Row.{planOfRow, rowOfPlan}
 use Rattle.planrow.proofs.RoundTrip.{row-means}
 use Rattle.monitor.proofs.Starting.{accepted-means}
-use Rattle.embed.specs.Embed.{Held as Memory, held, machineIn, verdictWords, blankHeld, Starts}
+use Rattle.embed.specs.Embed.{held, machineIn, verdictWords, Starts}
 
 at-blank : (X : ℕ) → at noPlan X ≡ blank
 unfolding at

@@ -1,7 +1,7 @@
 -- How many live after a call: no more than 129, or as many as before.
-use Prim.Native.Nat.{ℕ, suc, _+_, _≤_}
-use mathlib.Core.Path.{_≡_, refl, sym, ap, _∙_, subst}
-use mathlib.Core.Bool.{Bool, true, false, cond, _&&_}
+use Prim.Native.Nat.{ℕ, _≤_}
+use mathlib.Core.Path.{_≡_, refl}
+use mathlib.Core.Bool.{Bool, true, false, cond}
 use mathlib.Core.List.{List, [], _∷_, _++_}
 use mathlib.Core.Option.{Option, none, some}
 use native.Mathlib.Omega.{arith}
@@ -14,7 +14,7 @@ use Rattle.plan.specs.declared.Form.the-variants.{End, Go, Either, Both}
 use Rattle.plan.specs.Plan.{at}
 use Rattle.machine.specs.declared.Answer.{Answer}
 use Rattle.machine.specs.declared.Answer.the-variants.{Done, Delivered, Held, Refused}
-use Rattle.machine.specs.Machine.{Process, Machine, Call, step, send, raise, lower, boxLimits, planFits, populationFits, wellFormed, rising, processFits, find, children, spawn, remove, relabel, settled, ifDone, stepped, moved, stepBy, sendBy, raiseBy, lowerBy, answerTo, run}
+use Rattle.machine.specs.Machine.{Process, Machine, Call, step, send, raise, lower, boxLimits, planFits, populationFits, wellFormed, find, children, spawn, remove, settled, ifDone, stepped, moved, stepBy, sendBy, raiseBy, lowerBy, answerTo, run}
 use Rattle.promise.specs.Replay.{machineAfter}
 use Rattle.promise.proofs.Ordered.{length-remove, length-relabel, length-spawn}
 

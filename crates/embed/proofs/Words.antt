@@ -1,6 +1,6 @@
 -- The judge's words, as the code meets them: v is the verdict, n the number of its text.
-use Prim.Native.Nat.{ℕ, _≤_, _<_}
-use mathlib.Core.Path.{_≡_, refl, sym, ap, ap₂, _∙_, subst}
+use Prim.Native.Nat.{ℕ, _≤_}
+use mathlib.Core.Path.{_≡_, refl, sym, ap, _∙_}
 use mathlib.Core.Logic.{_≢_}
 use mathlib.Core.List.{List, [], _∷_}
 use native.Mathlib.Omega.{arith}
@@ -10,7 +10,6 @@ use Rattle.rules.specs.declared.Breach.{Breach}
 use Rattle.rules.specs.declared.Part.{Part}
 use Rattle.rules.specs.declared.Verdict.{Verdict}
 use Rattle.rules.specs.declared.Verdict.the-variants.{Accepted, Broken, Unread}
-use Rattle.rules.specs.Judge.{judge}
 use Rattle.machine.specs.declared.State.{State}
 use Rattle.playback.specs.Playback.{playable, Replays}
 use Rattle.embed.specs.Embed.{textNumber, verdictWords, partWords, ReplayedAll}
