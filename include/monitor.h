@@ -9,8 +9,8 @@
  * Each function is proved to do what is said here whatever the memory holds (crates/embed): it reads and writes
  * nothing else, it ends, and no value of any word makes it go wrong.
  *
- * Stack, as measured on x86-64 with a plan of 64 templates in one long chain (it is not part of what is proved): judge
- * and locate need about 18 KB, start 44 KB, replay and run_values 62 KB, each other call less than 1 KB.
+ * Stack, as measured on x86-64 with plans of up to 64 templates (it is not part of what is proved): judge and locate
+ * need less than 18 KB, start less than 46 KB, replay less than 65 KB, each other call less than 1 KB.
  */
 #ifndef MONITOR_H
 #define MONITOR_H
@@ -22,7 +22,7 @@
 extern "C" {
 #endif
 
-/* How many elements each lent array has. */
+/* How many elements each lent array has. Those of a state, its row among them, are 4,996 words: 19,984 bytes. */
 enum {
     MONITOR_VERDICT_WORDS = 5,
     MONITOR_PART_WORDS = 3,
@@ -50,11 +50,13 @@ enum monitor_form { MONITOR_END = 0, MONITOR_GO = 1, MONITOR_EITHER = 2, MONITOR
 
 /* A state is a row and the lent memory beside it:
  *   place[0]: the next serial; place[1]: how many processes live
- *   serials, templates, labels: of the process at each place below place[1], by rising serial
+ *   serials, templates, labels: of the process at each place below place[1], by rising serial; a template is a number
+ *     below N, and the whole word counts: 256 is not 0
  *   tags: tag i of the process at place p stands at p * M + i
  * What stands past the live places carries no meaning.                                                               */
 
-/* What a call answers. From 20 on the call is refused, and then neither place nor array has changed. */
+/* What a call answers. From 20 on the call is refused, and then neither place nor array has changed. Each call is lent
+ * the memory beside the row for writing, also where it is said to leave it as it was.                                 */
 enum monitor_answer {
     MONITOR_DONE = 0,           /* step, raise, lower: accepted                                                       */
     MONITOR_DELIVERED = 1,      /* send: the message may pass                                                         */
@@ -88,46 +90,39 @@ void monitor_locate(const uint8_t *plan, size_t plan_len, const uint8_t *policy,
 void monitor_start(const uint8_t *plan, size_t plan_len, const uint8_t *policy, size_t policy_len,
                    uint32_t verdict[MONITOR_VERDICT_WORDS], uint32_t row[MONITOR_ROW_WORDS],
                    uint32_t place[MONITOR_PLACE_WORDS], uint32_t serials[MONITOR_PROCESSES],
-                   uint8_t templates[MONITOR_PROCESSES], uint32_t labels[MONITOR_PROCESSES],
+                   uint32_t templates[MONITOR_PROCESSES], uint32_t labels[MONITOR_PROCESSES],
                    uint32_t tags[MONITOR_TAGS]);
 
 /* The process ends; `go` and `either` make one child, `both` two, `end` none. branch chooses for `either`. */
 uint32_t monitor_step(const uint32_t row[MONITOR_ROW_WORDS], uint32_t place[MONITOR_PLACE_WORDS],
-                      uint32_t serials[MONITOR_PROCESSES], uint8_t templates[MONITOR_PROCESSES],
+                      uint32_t serials[MONITOR_PROCESSES], uint32_t templates[MONITOR_PROCESSES],
                       uint32_t labels[MONITOR_PROCESSES], uint32_t tags[MONITOR_TAGS], uint32_t serial,
                       uint32_t branch);
 
-/* Whether a message may pass. The state stays. */
-uint32_t monitor_send(const uint32_t row[MONITOR_ROW_WORDS], const uint32_t place[MONITOR_PLACE_WORDS],
-                      const uint32_t serials[MONITOR_PROCESSES], const uint8_t templates[MONITOR_PROCESSES],
-                      const uint32_t labels[MONITOR_PROCESSES], const uint32_t tags[MONITOR_TAGS], uint32_t from,
-                      uint32_t to);
+/* Whether a message may pass. The memory is left as it was. */
+uint32_t monitor_send(const uint32_t row[MONITOR_ROW_WORDS], uint32_t place[MONITOR_PLACE_WORDS],
+                      uint32_t serials[MONITOR_PROCESSES], uint32_t templates[MONITOR_PROCESSES],
+                      uint32_t labels[MONITOR_PROCESSES], uint32_t tags[MONITOR_TAGS], uint32_t from, uint32_t to);
 
 /* The process's label has that identifier from now on. Only labels changes. */
-uint32_t monitor_raise(const uint32_t row[MONITOR_ROW_WORDS], const uint32_t place[MONITOR_PLACE_WORDS],
-                       const uint32_t serials[MONITOR_PROCESSES], const uint8_t templates[MONITOR_PROCESSES],
-                       uint32_t labels[MONITOR_PROCESSES], const uint32_t tags[MONITOR_TAGS], uint32_t serial,
+uint32_t monitor_raise(const uint32_t row[MONITOR_ROW_WORDS], uint32_t place[MONITOR_PLACE_WORDS],
+                       uint32_t serials[MONITOR_PROCESSES], uint32_t templates[MONITOR_PROCESSES],
+                       uint32_t labels[MONITOR_PROCESSES], uint32_t tags[MONITOR_TAGS], uint32_t serial,
                        uint32_t identifier);
 
 /* The process's label lacks that identifier from now on. Only labels changes. */
-uint32_t monitor_lower(const uint32_t row[MONITOR_ROW_WORDS], const uint32_t place[MONITOR_PLACE_WORDS],
-                       const uint32_t serials[MONITOR_PROCESSES], const uint8_t templates[MONITOR_PROCESSES],
-                       uint32_t labels[MONITOR_PROCESSES], const uint32_t tags[MONITOR_TAGS], uint32_t serial,
+uint32_t monitor_lower(const uint32_t row[MONITOR_ROW_WORDS], uint32_t place[MONITOR_PLACE_WORDS],
+                       uint32_t serials[MONITOR_PROCESSES], uint32_t templates[MONITOR_PROCESSES],
+                       uint32_t labels[MONITOR_PROCESSES], uint32_t tags[MONITOR_TAGS], uint32_t serial,
                        uint32_t identifier);
 
 /* Runs a list of calls, three words each (kind, then its two numbers), through the state, and writes one answer to a
  * byte. It plays min(words / 3, places) calls and returns that number; a refused call changes nothing, and the list goes
  * on. Where the row means no plan each of those answers is 20.                                                        */
 size_t monitor_run(const uint32_t row[MONITOR_ROW_WORDS], uint32_t place[MONITOR_PLACE_WORDS],
-                   uint32_t serials[MONITOR_PROCESSES], uint8_t templates[MONITOR_PROCESSES],
+                   uint32_t serials[MONITOR_PROCESSES], uint32_t templates[MONITOR_PROCESSES],
                    uint32_t labels[MONITOR_PROCESSES], uint32_t tags[MONITOR_TAGS], const uint32_t *calls,
                    size_t words, uint8_t *answers, size_t places);
-
-/* The same as monitor_run, through operations that pass the whole state by value: slower, and kept to be compared with it. */
-size_t monitor_run_values(const uint32_t row[MONITOR_ROW_WORDS], uint32_t place[MONITOR_PLACE_WORDS],
-                          uint32_t serials[MONITOR_PROCESSES], uint8_t templates[MONITOR_PROCESSES],
-                          uint32_t labels[MONITOR_PROCESSES], uint32_t tags[MONITOR_TAGS], const uint32_t *calls,
-                          size_t words, uint8_t *answers, size_t places);
 
 /* Judges the two texts, starts the box and runs the calls through it; writes the verdict and the answers, and returns how
  * many calls were played: 0 where not accepted, and then no answer is written. The box promise holds after them.      */

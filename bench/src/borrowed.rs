@@ -9,7 +9,7 @@ pub struct State {
     pub next: u32,
     pub live: usize,
     pub serials: [u32; 128],
-    pub templates: [u8; 128],
+    pub templates: [u32; 128],
     pub labels: [u32; 128],
     pub tags: [[u32; 32]; 128],
 }
@@ -36,7 +36,7 @@ fn well_formed(s: &State) -> bool {
         if p + 1 < s.live && s.serials[p] >= s.serials[p + 1] {
             return false;
         }
-        if s.serials[p] >= s.next || s.templates[p] as u32 >= s.plan.n || s.labels[p] as u64 >= bound {
+        if s.serials[p] >= s.next || s.templates[p] >= s.plan.n || s.labels[p] as u64 >= bound {
             return false;
         }
         for &tag in &s.tags[p][..m as usize] {
@@ -65,7 +65,7 @@ fn enter(s: &mut State, y: u8, parent: [u32; 32]) {
     let t = s.plan.templates[y as usize];
     let at = s.live;
     s.serials[at] = s.next;
-    s.templates[at] = y;
+    s.templates[at] = y as u32;
     s.labels[at] = t.lab;
     s.tags[at] = parent;
     for i in 0..s.plan.m as usize {

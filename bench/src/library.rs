@@ -8,12 +8,6 @@ pub fn run(m: &mut Monitor, calls: &[u32], answers: &mut [u8]) {
     assert_eq!(played, answers.len());
 }
 
-/// Through the operations by value.
-pub fn run_values(m: &mut Monitor, calls: &[u32], answers: &mut [u8]) {
-    let played = m.run_values_into(calls, answers);
-    assert_eq!(played, answers.len());
-}
-
 /// One by one, as a program that embeds the monitor makes them.
 pub fn one_by_one(m: &mut Monitor, calls: &[u32], answers: &mut [u8]) {
     for (call, place) in calls.chunks_exact(3).zip(answers) {

@@ -9,14 +9,11 @@ mod judging;
 mod library;
 mod monitor;
 mod parts;
-mod thin;
 mod tuned;
-mod value;
 
-const LEGEND: &str = "core: monitor_run on lent arrays; singly: monitor_step and so on; by \
-value: monitor_run_values. (a) Rust that hands the State through every function by value, (a') only through the \
-operations; (b) Rust over `&mut State`; (c) the same hand-tuned: rows of M tags, no early exit. Steps: live is one less \
-two times in three; mixed lists: one more one time in three.";
+const LEGEND: &str = "core: monitor_run on lent arrays; singly: monitor_step and so on. (b) Rust over `&mut State`; (c) \
+the same hand-tuned: rows of M tags, no early exit. Steps: live is one less two times in three; mixed lists: one more \
+one time in three.";
 
 fn main() {
     let (quick, svg): (Vec<String>, Vec<String>) = std::env::args().skip(1).partition(|word| word == "quick");
@@ -31,6 +28,6 @@ fn main() {
         println!("\n![ms a verdict against templates × assertions](judge-growth.svg)");
         std::fs::write(path, plot).unwrap_or_else(|e| panic!("{path}: {e}"));
     }
-    println!("\nNanoseconds a call, {calls} calls of one kind, {mixed} mixed; by value a tenth of them. {LEGEND}\n");
+    println!("\nNanoseconds a call, {calls} calls of one kind, {mixed} mixed. {LEGEND}\n");
     monitor::table(turns, calls, mixed);
 }

@@ -9,7 +9,7 @@ pub struct State {
     pub next: u32,
     pub live: usize,
     pub serials: [u32; 128],
-    pub templates: [u8; 128],
+    pub templates: [u32; 128],
     pub labels: [u32; 128],
     pub tags: [u32; 4096],
 }
@@ -33,7 +33,7 @@ fn well_formed(s: &State) -> bool {
     let m = s.plan.m;
     let top = ((1u64 << m) - 1) as u32;
     let next = s.next;
-    let count = s.plan.n as u8;
+    let count = s.plan.n;
     let serials = &s.serials[..s.live];
     let rising = serials.iter().zip(serials.iter().skip(1)).fold(true, |ok, (a, b)| ok & (a < b));
     let earlier = serials.iter().fold(true, |ok, &x| ok & (x < next));
@@ -60,7 +60,7 @@ fn enter(s: &mut State, y: u8, parent: &[u32; 32]) {
     let t = &s.plan.templates[y as usize];
     let (at, m, next, creates) = (s.live, s.plan.m as usize, s.next, t.creates);
     s.serials[at] = next;
-    s.templates[at] = y;
+    s.templates[at] = y as u32;
     s.labels[at] = t.lab;
     for (i, tag) in s.tags[at * m..(at + 1) * m].iter_mut().enumerate() {
         *tag = if creates >> i & 1 == 1 { next } else { parent[i] };

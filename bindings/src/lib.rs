@@ -128,19 +128,40 @@ pub fn words_of(calls: &[Call]) -> Vec<u32> {
     calls.iter().flat_map(|call| call.words()).collect()
 }
 
+/// Calls a function of the C interface on the two texts, then its other arguments.
+macro_rules! on_texts {
+    ($function:ident, $plan:ident, $policy:ident, $($argument:expr),* $(,)?) => {
+        sys::$function(
+            $plan.as_ptr(),
+            $plan.len(),
+            $policy.as_ptr(),
+            $policy.len(),
+            $($argument),*
+        )
+    };
+}
+
+/// Calls a function of the C interface on a box that the caller may write: on its row, the fields of its state, then the
+/// other arguments.
+macro_rules! on_box {
+    ($function:ident, $box:ident, $($argument:expr),* $(,)?) => {
+        sys::$function(
+            &$box.row,
+            &mut $box.place,
+            &mut $box.serials,
+            &mut $box.templates,
+            &mut $box.labels,
+            &mut $box.tags,
+            $($argument),*
+        )
+    };
+}
+
 /// Judges the two texts.
 pub fn judge(plan: &[u8], policy: &[u8]) -> Verdict {
     let mut words = [0; 5];
     // SAFETY: the texts are lent for the call, and `words` is apart from them.
-    unsafe {
-        sys::monitor_judge(
-            plan.as_ptr(),
-            plan.len(),
-            policy.as_ptr(),
-            policy.len(),
-            &mut words,
-        )
-    };
+    unsafe { on_texts!(monitor_judge, plan, policy, &mut words) };
     Verdict::from_words(words)
 }
 
@@ -148,15 +169,7 @@ pub fn judge(plan: &[u8], policy: &[u8]) -> Verdict {
 pub fn locate(plan: &[u8], policy: &[u8]) -> Part {
     let mut words = [0; 3];
     // SAFETY: as in `judge`.
-    unsafe {
-        sys::monitor_locate(
-            plan.as_ptr(),
-            plan.len(),
-            policy.as_ptr(),
-            policy.len(),
-            &mut words,
-        )
-    };
+    unsafe { on_texts!(monitor_locate, plan, policy, &mut words) };
     Part {
         text: text_of(words[0]),
         start: words[1],
@@ -175,11 +188,10 @@ pub fn replay_into(
     let mut words = [0; 5];
     // SAFETY: as in `judge`; `answers` is lent alone, and no more than its length is written.
     let played = unsafe {
-        sys::monitor_replay(
-            plan.as_ptr(),
-            plan.len(),
-            policy.as_ptr(),
-            policy.len(),
+        on_texts!(
+            monitor_replay,
+            plan,
+            policy,
             calls.as_ptr(),
             calls.len(),
             answers.as_mut_ptr(),
@@ -194,13 +206,7 @@ pub fn replay_into(
 pub fn replay(plan: &[u8], policy: &[u8], calls: &[Call]) -> (Verdict, Vec<Answer>) {
     let mut codes = vec![0; calls.len()];
     let (verdict, played) = replay_into(plan, policy, &words_of(calls), &mut codes);
-    (
-        verdict,
-        codes[..played]
-            .iter()
-            .map(|&code| Answer::from_code(code))
-            .collect(),
-    )
+    (verdict, answers_of(&codes[..played]))
 }
 
 /// A box: the plan as a row of words, and the memory of its live processes (include/monitor.h has the layout).
@@ -208,11 +214,11 @@ pub fn replay(plan: &[u8], policy: &[u8], calls: &[Call]) -> (Verdict, Vec<Answe
 /// The fields are public, since any words whatever may stand there: a box that is not well formed answers 20.
 #[derive(Clone, Debug, PartialEq, Eq)]
 pub struct Monitor {
-    pub row: [u32; 514],
+    pub row: [u32; sys::ROW_WORDS],
     /// The next serial, and how many processes live.
     pub place: [u32; 2],
     pub serials: [u32; 128],
-    pub templates: [u8; 128],
+    pub templates: [u32; 128],
     pub labels: [u32; 128],
     /// Tag i of the process at place p stands at p * M + i.
     pub tags: [u32; 4096],
@@ -222,7 +228,7 @@ impl Monitor {
     /// All words 0: every call on it is answered 20.
     pub fn blank() -> Box<Monitor> {
         Box::new(Monitor {
-            row: [0; 514],
+            row: [0; sys::ROW_WORDS],
             place: [0; 2],
             serials: [0; 128],
             templates: [0; 128],
@@ -237,11 +243,10 @@ impl Monitor {
         let mut m = Monitor::blank();
         // SAFETY: the texts are lent for the call; the arrays are fields of one box, apart from each other.
         unsafe {
-            sys::monitor_start(
-                plan.as_ptr(),
-                plan.len(),
-                policy.as_ptr(),
-                policy.len(),
+            on_texts!(
+                monitor_start,
+                plan,
+                policy,
                 &mut words,
                 &mut m.row,
                 &mut m.place,
@@ -257,69 +262,25 @@ impl Monitor {
     /// The process of that serial goes, and its children come.
     pub fn step(&mut self, serial: u32, branch: u32) -> Answer {
         // SAFETY: the arrays are fields of one box, apart from each other.
-        answer(unsafe {
-            sys::monitor_step(
-                &self.row,
-                &mut self.place,
-                &mut self.serials,
-                &mut self.templates,
-                &mut self.labels,
-                &mut self.tags,
-                serial,
-                branch,
-            )
-        })
+        answer(unsafe { on_box!(monitor_step, self, serial, branch) })
     }
 
-    /// Whether a message may pass. The box stays.
-    pub fn send(&self, from: u32, to: u32) -> Answer {
-        // SAFETY: the arrays are only read.
-        answer(unsafe {
-            sys::monitor_send(
-                &self.row,
-                &self.place,
-                &self.serials,
-                &self.templates,
-                &self.labels,
-                &self.tags,
-                from,
-                to,
-            )
-        })
+    /// Whether a message may pass. The box is left as it was.
+    pub fn send(&mut self, from: u32, to: u32) -> Answer {
+        // SAFETY: as in `step`.
+        answer(unsafe { on_box!(monitor_send, self, from, to) })
     }
 
     /// The process's label has that identifier from now on.
     pub fn raise(&mut self, serial: u32, identifier: u32) -> Answer {
         // SAFETY: as in `step`.
-        answer(unsafe {
-            sys::monitor_raise(
-                &self.row,
-                &self.place,
-                &self.serials,
-                &self.templates,
-                &mut self.labels,
-                &self.tags,
-                serial,
-                identifier,
-            )
-        })
+        answer(unsafe { on_box!(monitor_raise, self, serial, identifier) })
     }
 
     /// The process's label lacks that identifier from now on.
     pub fn lower(&mut self, serial: u32, identifier: u32) -> Answer {
         // SAFETY: as in `step`.
-        answer(unsafe {
-            sys::monitor_lower(
-                &self.row,
-                &self.place,
-                &self.serials,
-                &self.templates,
-                &mut self.labels,
-                &self.tags,
-                serial,
-                identifier,
-            )
-        })
+        answer(unsafe { on_box!(monitor_lower, self, serial, identifier) })
     }
 
     /// Runs the words of calls, three to a call, and writes one answer's code to a byte; plays as many calls as there are
@@ -327,32 +288,9 @@ impl Monitor {
     pub fn run_into(&mut self, calls: &[u32], answers: &mut [u8]) -> usize {
         // SAFETY: as in `step`; `answers` is lent alone, and no more than its length is written.
         unsafe {
-            sys::monitor_run(
-                &self.row,
-                &mut self.place,
-                &mut self.serials,
-                &mut self.templates,
-                &mut self.labels,
-                &mut self.tags,
-                calls.as_ptr(),
-                calls.len(),
-                answers.as_mut_ptr(),
-                answers.len(),
-            )
-        }
-    }
-
-    /// The same as [`Monitor::run_into`] through the operations that pass the state by value: slower, and kept to be compared.
-    pub fn run_values_into(&mut self, calls: &[u32], answers: &mut [u8]) -> usize {
-        // SAFETY: as in `run_into`.
-        unsafe {
-            sys::monitor_run_values(
-                &self.row,
-                &mut self.place,
-                &mut self.serials,
-                &mut self.templates,
-                &mut self.labels,
-                &mut self.tags,
+            on_box!(
+                monitor_run,
+                self,
                 calls.as_ptr(),
                 calls.len(),
                 answers.as_mut_ptr(),
@@ -365,16 +303,17 @@ impl Monitor {
     pub fn run(&mut self, calls: &[Call]) -> Vec<Answer> {
         let mut codes = vec![0; calls.len()];
         let played = self.run_into(&words_of(calls), &mut codes);
-        codes[..played]
-            .iter()
-            .map(|&code| Answer::from_code(code))
-            .collect()
+        answers_of(&codes[..played])
     }
 
     /// The serials that live, rising; as many as the arrays have places for.
     pub fn live(&self) -> &[u32] {
         &self.serials[..(self.place[1] as usize).min(128)]
     }
+}
+
+fn answers_of(codes: &[u8]) -> Vec<Answer> {
+    codes.iter().map(|&code| Answer::from_code(code)).collect()
 }
 
 // Every code that the library answers is below 256.

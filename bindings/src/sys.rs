@@ -1,6 +1,9 @@
 //! The C interface as include/monitor.h declares it. Nothing checks these declarations against the library: they are
 //! kept word for word with the header.
 
+/// The words of a plan's row: MONITOR_ROW_WORDS.
+pub const ROW_WORDS: usize = 514;
+
 extern "C" {
     pub fn monitor_judge(
         plan: *const u8,
@@ -22,77 +25,13 @@ extern "C" {
         policy: *const u8,
         policy_len: usize,
         verdict: *mut [u32; 5],
-        row: *mut [u32; 514],
+        row: *mut [u32; ROW_WORDS],
         place: *mut [u32; 2],
         serials: *mut [u32; 128],
-        templates: *mut [u8; 128],
+        templates: *mut [u32; 128],
         labels: *mut [u32; 128],
         tags: *mut [u32; 4096],
     );
-    pub fn monitor_step(
-        row: *const [u32; 514],
-        place: *mut [u32; 2],
-        serials: *mut [u32; 128],
-        templates: *mut [u8; 128],
-        labels: *mut [u32; 128],
-        tags: *mut [u32; 4096],
-        serial: u32,
-        branch: u32,
-    ) -> u32;
-    pub fn monitor_send(
-        row: *const [u32; 514],
-        place: *const [u32; 2],
-        serials: *const [u32; 128],
-        templates: *const [u8; 128],
-        labels: *const [u32; 128],
-        tags: *const [u32; 4096],
-        from: u32,
-        to: u32,
-    ) -> u32;
-    pub fn monitor_raise(
-        row: *const [u32; 514],
-        place: *const [u32; 2],
-        serials: *const [u32; 128],
-        templates: *const [u8; 128],
-        labels: *mut [u32; 128],
-        tags: *const [u32; 4096],
-        serial: u32,
-        identifier: u32,
-    ) -> u32;
-    pub fn monitor_lower(
-        row: *const [u32; 514],
-        place: *const [u32; 2],
-        serials: *const [u32; 128],
-        templates: *const [u8; 128],
-        labels: *mut [u32; 128],
-        tags: *const [u32; 4096],
-        serial: u32,
-        identifier: u32,
-    ) -> u32;
-    pub fn monitor_run(
-        row: *const [u32; 514],
-        place: *mut [u32; 2],
-        serials: *mut [u32; 128],
-        templates: *mut [u8; 128],
-        labels: *mut [u32; 128],
-        tags: *mut [u32; 4096],
-        calls: *const u32,
-        words: usize,
-        answers: *mut u8,
-        places: usize,
-    ) -> usize;
-    pub fn monitor_run_values(
-        row: *const [u32; 514],
-        place: *mut [u32; 2],
-        serials: *mut [u32; 128],
-        templates: *mut [u8; 128],
-        labels: *mut [u32; 128],
-        tags: *mut [u32; 4096],
-        calls: *const u32,
-        words: usize,
-        answers: *mut u8,
-        places: usize,
-    ) -> usize;
     pub fn monitor_replay(
         plan: *const u8,
         plan_len: usize,
@@ -105,3 +44,26 @@ extern "C" {
         verdict: *mut [u32; 5],
     ) -> usize;
 }
+
+/// Declares a function on a row and a state, lent for writing; then come its other arguments. The row is only read.
+macro_rules! on_state {
+    ($name:ident, ($($argument:ident: $type:ty),*) -> $answer:ty) => {
+        extern "C" {
+            pub fn $name(
+                row: *const [u32; ROW_WORDS],
+                place: *mut [u32; 2],
+                serials: *mut [u32; 128],
+                templates: *mut [u32; 128],
+                labels: *mut [u32; 128],
+                tags: *mut [u32; 4096],
+                $($argument: $type),*
+            ) -> $answer;
+        }
+    };
+}
+
+on_state!(monitor_step, (serial: u32, branch: u32) -> u32);
+on_state!(monitor_send, (from: u32, to: u32) -> u32);
+on_state!(monitor_raise, (serial: u32, identifier: u32) -> u32);
+on_state!(monitor_lower, (serial: u32, identifier: u32) -> u32);
+on_state!(monitor_run, (calls: *const u32, words: usize, answers: *mut u8, places: usize) -> usize);

@@ -35,6 +35,17 @@ fn after_the_run() -> Box<Monitor> {
     m
 }
 
+/// Every call on the box is answered 20, and no word of it changes.
+fn refuses_all(mut m: Box<Monitor>) {
+    let before = m.clone();
+    assert_eq!(m.step(4, 0), Answer::Refused(20));
+    assert_eq!(m.send(6, 4), Answer::Refused(20));
+    assert_eq!(m.raise(4, 0), Answer::Refused(20));
+    assert_eq!(m.lower(4, 0), Answer::Refused(20));
+    assert_eq!(m.run(&RUN), [Answer::Refused(20); 5]);
+    assert_eq!(m, before);
+}
+
 #[test]
 fn verdicts() {
     assert_eq!(judge(PLAN, POLICY), Verdict::Accepted);
@@ -115,14 +126,23 @@ fn rows_that_mean_no_plan() {
     for (at, word) in [(0, 65), (2, 4), (3, 256), (4, 256), (9, 2)] {
         let mut m = after_the_run();
         m.row[at] = word;
-        let before = m.clone();
-        assert_eq!(m.step(4, 0), Answer::Refused(20));
-        assert_eq!(m.send(6, 4), Answer::Refused(20));
-        assert_eq!(m.raise(4, 0), Answer::Refused(20));
-        assert_eq!(m.lower(4, 0), Answer::Refused(20));
-        assert_eq!(m.run(&RUN), [Answer::Refused(20); 5]);
-        assert_eq!(m, before);
+        refuses_all(m);
     }
+}
+
+/// A template counts as a whole word: one whose low byte is a template's number is none.
+#[test]
+fn templates_of_256_and_above() {
+    for high in [1 << 8, 1 << 16, 1 << 31, u32::MAX << 8] {
+        for place in 0..3 {
+            let mut m = after_the_run();
+            m.templates[place] |= high;
+            refuses_all(m);
+        }
+    }
+    let mut m = after_the_run();
+    m.templates[3] = u32::MAX;
+    assert_eq!(m.send(6, 4), Answer::Delivered);
 }
 
 #[test]
@@ -170,32 +190,4 @@ fn lists() {
     assert_eq!(m.run_into(&monitor::words_of(&calls), &mut codes[..3]), 3);
     assert_eq!(codes, [0, 0, 0, 0xEE]);
     assert_eq!(m.place, [5, 2]);
-}
-
-#[test]
-fn by_value() {
-    let mut calls = RUN.to_vec();
-    calls.extend([
-        Call::Send { from: 6, to: 4 },
-        Call::Step {
-            serial: 4,
-            branch: 0,
-        },
-        Call::Step {
-            serial: 4,
-            branch: 0,
-        },
-    ]);
-    let words = monitor::words_of(&calls);
-    let (_, mut lent) = Monitor::start(PLAN, POLICY);
-    let mut valued = lent.clone();
-    let (mut a, mut b) = ([0; 8], [0; 8]);
-    assert_eq!(lent.run_into(&words, &mut a), 8);
-    assert_eq!(valued.run_values_into(&words, &mut b), 8);
-    assert_eq!(a, b);
-    assert_eq!(a, [0, 0, 0, 0, 0, 1, 0, 21]);
-    assert_eq!((lent.place, lent.live()), (valued.place, valued.live()));
-    valued.row[0] = 65;
-    assert_eq!(valued.run_values_into(&words, &mut b), 8);
-    assert_eq!(b, [20; 8]);
 }

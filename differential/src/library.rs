@@ -10,10 +10,9 @@ use reference::rng::Rng;
 /// Memory that holds anything.
 pub fn junk(r: &mut Rng) -> Box<Monitor> {
     let mut m = Monitor::blank();
-    for words in [&mut m.row[..], &mut m.place, &mut m.serials, &mut m.labels, &mut m.tags] {
+    for words in [&mut m.row[..], &mut m.place, &mut m.serials, &mut m.templates, &mut m.labels, &mut m.tags] {
         words.fill_with(|| r.next() as u32);
     }
-    m.templates.fill_with(|| r.next() as u8);
     m
 }
 
@@ -26,10 +25,11 @@ pub fn memory_of(r: &mut Rng, s: &State) -> Box<Monitor> {
         (t.form.successors().count()..2).for_each(|k| memory.row[3 + 8 * x + k] = r.below(256) as u32);
     }
     memory.place = [s.next as u32, s.live];
-    (memory.serials, memory.templates, memory.labels) = (s.serials, s.templates, s.labels);
+    (memory.serials, memory.labels) = (s.serials, s.labels);
     let m = s.plan.m as usize;
-    if m <= 32 {
-        for p in 0..(s.live as usize).min(128) {
+    for p in 0..(s.live as usize).min(128) {
+        memory.templates[p] = s.templates[p] as u32;
+        if m <= 32 {
             memory.tags[m * p..m * p + m].copy_from_slice(&s.tags[32 * p..32 * p + m]);
         }
     }
@@ -72,7 +72,7 @@ pub fn means(memory: &Monitor, s: &State) -> bool {
     memory.place == [s.next as u32, s.live]
         && (0..s.live as usize).all(|p| {
             memory.serials[p] == s.serials[p]
-                && memory.templates[p] == s.templates[p]
+                && memory.templates[p] == s.templates[p] as u32
                 && memory.labels[p] == s.labels[p]
                 && memory.tags[m * p..m * p + m] == s.tags[32 * p..32 * p + m]
         })

@@ -15,9 +15,6 @@ const LISTS: &str = "call lists, the promise kept on each";
 pub const SINGLE: &str = "calls made one by one, the state compared after each";
 const MORE: &str = "calls made again in a list";
 
-type Run = (&'static str, fn(&mut Monitor, &[u32], &mut [u8]) -> usize);
-pub const RUNS: [Run; 2] = [("run", Monitor::run_into), ("run by value", Monitor::run_values_into)];
-
 pub fn expected_kinds(tally: &mut Tally) {
     ["done", "delivered", "held"].iter().for_each(|kind| tally.expect(SINGLE, kind));
     (20..=29).for_each(|number| tally.expect(SINGLE, &format!("refused {number}")));
@@ -110,16 +107,15 @@ fn answered(what: &str, played: usize, got: &[u8], answers: &[Answer]) -> Checke
     same(&format!("answers past the last of {what}"), got[count..].iter().all(|&b| b == 99), true)
 }
 
-/// All calls at once, on lent arrays or by value; where not all were played, the rest in a second run.
+/// All calls at once; where not all were played, the rest in a second run.
 pub fn as_run(r: &mut Rng, memory: &mut Monitor, list: &[Call], answers: &[Answer], end: &State) -> Checked {
-    let (what, run): Run = *r.pick(&RUNS);
     let (w, mut got) = laid_out(r, list);
-    let played = run(memory, &w, &mut got);
-    answered(what, played, &got, answers)?;
+    let played = memory.run_into(&w, &mut got);
+    answered("run", played, &got, answers)?;
     let mut rest = vec![99; list.len() - played];
-    let played_rest = run(memory, &w[3 * played..], &mut rest);
-    answered(&format!("{what}, the rest"), played_rest, &rest, &answers[played..])?;
-    same(&format!("the state after {what} means the reference's"), library::means(memory, end), true)
+    let played_rest = memory.run_into(&w[3 * played..], &mut rest);
+    answered("run, the rest", played_rest, &rest, &answers[played..])?;
+    same("the state after run means the reference's", library::means(memory, end), true)
 }
 
 fn as_replay(r: &mut Rng, plan: &[u8], policy: &[u8], list: &[Call], answers: &[Answer]) -> Checked {

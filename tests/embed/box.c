@@ -21,7 +21,7 @@ struct box {
     uint32_t row[MONITOR_ROW_WORDS];
     uint32_t place[MONITOR_PLACE_WORDS];
     uint32_t serials[MONITOR_PROCESSES];
-    uint8_t templates[MONITOR_PROCESSES];
+    uint32_t templates[MONITOR_PROCESSES];
     uint32_t labels[MONITOR_PROCESSES];
     uint32_t tags[MONITOR_TAGS];
 };
@@ -41,7 +41,7 @@ static uint32_t step(struct box *b, uint32_t serial, uint32_t branch) {
     return monitor_step(b->row, b->place, b->serials, b->templates, b->labels, b->tags, serial, branch);
 }
 
-static uint32_t send(const struct box *b, uint32_t from, uint32_t to) {
+static uint32_t send(struct box *b, uint32_t from, uint32_t to) {
     return monitor_send(b->row, b->place, b->serials, b->templates, b->labels, b->tags, from, to);
 }
 
@@ -51,6 +51,10 @@ static uint32_t raise(struct box *b, uint32_t serial, uint32_t identifier) {
 
 static uint32_t lower(struct box *b, uint32_t serial, uint32_t identifier) {
     return monitor_lower(b->row, b->place, b->serials, b->templates, b->labels, b->tags, serial, identifier);
+}
+
+static size_t run(struct box *b, const uint32_t *calls, size_t words, uint8_t *answers, size_t places) {
+    return monitor_run(b->row, b->place, b->serials, b->templates, b->labels, b->tags, calls, words, answers, places);
 }
 
 /* Every word is written before start, so that one that start leaves out is seen. */
@@ -130,19 +134,40 @@ static void case_a(void) {
     expect(b.place[0] == 8 && b.place[1] == 2 && b.serials[0] == 6 && b.serials[1] == 7, "6 and 7 live");
 }
 
+/* After case a's run and what was then done to the memory. */
+static void all_refused(struct box *b, const char *why) {
+    static const uint32_t calls[] = {MONITOR_STEP, 4, 0, MONITOR_SEND, 6, 4, MONITOR_RAISE, 4, 0, MONITOR_LOWER, 4, 0};
+    static const uint8_t refused[] = {20, 20, 20, 20};
+    uint8_t given[4];
+    struct box before = *b;
+    expect(step(b, 4, 0) == MONITOR_BAD_STATE, why);
+    expect(send(b, 6, 4) == MONITOR_BAD_STATE, "send is 20");
+    expect(raise(b, 4, 0) == MONITOR_BAD_STATE, "raise is 20");
+    expect(lower(b, 4, 0) == MONITOR_BAD_STATE, "lower is 20");
+    expect(run(b, calls, COUNT(calls), given, sizeof given) == 4, "a list of four is played");
+    expect(memcmp(given, refused, sizeof given) == 0, "and each answer is 20");
+    expect(memcmp(b, &before, sizeof before) == 0, "and nothing is touched");
+}
+
 static void bad_memory(void) {
     static const size_t damage[][2] = {{0, 65}, {2, 4}, {3, 256}, {4, 256}, {9, 2}};
-    struct box b, before;
+    static const uint32_t high[] = {1u << 8, 1u << 16, 1u << 31, 0xFFFFFF00u};
+    struct box b;
     for (size_t i = 0; i < COUNT(damage); i++) {
         run_of_a(&b);
         b.row[damage[i][0]] = (uint32_t)damage[i][1];
-        before = b;
-        expect(step(&b, 4, 0) == MONITOR_BAD_STATE, "a row that means no plan: step is 20");
-        expect(send(&b, 6, 4) == MONITOR_BAD_STATE, "send is 20");
-        expect(raise(&b, 4, 0) == MONITOR_BAD_STATE, "raise is 20");
-        expect(lower(&b, 4, 0) == MONITOR_BAD_STATE, "lower is 20");
-        expect(memcmp(&b, &before, sizeof b) == 0, "and nothing is touched");
+        all_refused(&b, "a row that means no plan: step is 20");
     }
+    for (size_t i = 0; i < COUNT(high); i++) {
+        for (size_t p = 0; p < 3; p++) {
+            run_of_a(&b);
+            b.templates[p] |= high[i];
+            all_refused(&b, "a template of 256 and above whose low byte is below N: step is 20");
+        }
+    }
+    run_of_a(&b);
+    b.templates[3] = 4294967295u;
+    expect(send(&b, 6, 4) == MONITOR_DELIVERED, "templates past the live places carry no meaning");
     run_of_a(&b);
     b.row[1] = 33;
     expect(send(&b, 6, 4) == MONITOR_BAD_STATE, "33 identifiers are 20");
@@ -166,18 +191,13 @@ static void lists(void) {
     struct box b, whole;
     start(&b, TEXT(plan), TEXT(policy), verdict);
     memset(given, 0xEE, sizeof given);
-    size_t n = monitor_run(b.row, b.place, b.serials, b.templates, b.labels, b.tags, calls, COUNT(calls), given, sizeof given);
+    size_t n = run(&b, calls, COUNT(calls), given, sizeof given);
     expect(n == COUNT(answers) && memcmp(given, answers, n) == 0 && given[n] == 0xEE, "a list of calls");
     expect(b.place[0] == 8 && b.place[1] == 2 && b.serials[0] == 6 && b.serials[1] == 7, "and what it leaves");
     start(&whole, TEXT(plan), TEXT(policy), verdict);
     memset(given, 0xEE, sizeof given);
-    n = monitor_run(whole.row, whole.place, whole.serials, whole.templates, whole.labels, whole.tags, calls, COUNT(calls), given, 3);
+    n = run(&whole, calls, COUNT(calls), given, 3);
     expect(n == 3 && given[2] == 0 && given[3] == 0xEE && whole.place[0] == 5, "no more calls than places");
-    start(&whole, TEXT(plan), TEXT(policy), verdict);
-    memset(given, 0xEE, sizeof given);
-    n = monitor_run_values(whole.row, whole.place, whole.serials, whole.templates, whole.labels, whole.tags, calls, COUNT(calls), given, sizeof given);
-    expect(n == COUNT(answers) && memcmp(given, answers, n) == 0 && given[n] == 0xEE, "the same by value");
-    expect(whole.place[0] == 8 && whole.place[1] == 2 && whole.serials[0] == 6 && whole.serials[1] == 7, "and what it leaves");
     memset(given, 0xEE, sizeof given);
     n = monitor_replay(TEXT(plan), TEXT(policy), calls, COUNT(calls), given, sizeof given, verdict);
     expect(n == COUNT(answers) && memcmp(given, answers, n) == 0 && verdict[0] == MONITOR_ACCEPTED, "the same from the texts");
@@ -187,7 +207,7 @@ static void lists(void) {
     whole = b;
     b.row[0] = whole.row[0] = 65;
     memset(given, 0xEE, sizeof given);
-    n = monitor_run(b.row, b.place, b.serials, b.templates, b.labels, b.tags, calls, 9, given, sizeof given);
+    n = run(&b, calls, 9, given, sizeof given);
     expect(n == 3 && memcmp(given, refused, sizeof refused) == 0, "a row that means no plan: each answer is 20");
     expect(memcmp(&b, &whole, sizeof b) == 0, "and nothing else is touched");
 }

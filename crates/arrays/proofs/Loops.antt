@@ -1,43 +1,16 @@
--- A serial that no place has; the turns of the loop that moves numbers down: `shifted`.
+-- The turns of the loop that moves numbers down: `shifted`.
 use Prim.Native.Nat.{ℕ, _+_, _-_, _≤_, _<_, min}
 use mathlib.Core.Path.{_≡_, sym, ap, _∙_}
-use mathlib.Core.Bool.{and-false, false}
+use mathlib.Core.Bool.{and-false}
 use mathlib.Core.Logic.{⊎-elim}
 use mathlib.Core.List.{List}
 use native.Mathlib.Omega.{arith}
-use lib.ListN.{length, getD, set, List·getD-eq-default}
+use lib.ListN.{length, getD, set}
 use lib.Seq.{getD-set-same, getD-set-other}
-use lib.Dec.{leb, eqb}
-use borrow.Author.Tests.{lt-ltb, le-ltb, le-leb, lt-leb, eq-eqb, ne-eqb}
-use Rattle.lists.specs.Numbers.{any, lowest}
+use lib.Dec.{leb}
+use borrow.Author.Tests.{lt-ltb, le-ltb, le-leb, lt-leb}
 use Rattle.lists.proofs.Tests.{lt-or-le}
-use Rattle.lists.proofs.Every.{any-at, any-of}
-use Rattle.lists.proofs.Lowest.{lowest-hit, lowest-end}
 use Rattle.arrays.specs.Places.{shifted}
-
--- ---- a serial that is not among those of the list
-
-module _ (xs : List ℕ) (n s end : ℕ) (ee : end ≡ min n (length xs)) (e : any end (λ k. eqb (getD xs k 0) s) ≡ false) where
-  past-end : (k : ℕ) → end ≤ k → k < n → getD xs k 0 ≡ 0
-  past-end k h l = List·getD-eq-default xs 0 (ended k h l)
-    where
-      ended : (k : ℕ) → end ≤ k → k < n → length xs ≤ k
-      ended k h l = omega arith
-
-  -- 0 stands past the end.
-  pub place-zero : s ≡ 0 → end ≡ lowest n (λ k. eqb (getD xs k 0) s)
-  place-zero z =
-      ⊎-elim (λ l. lowest-hit n (λ k. eqb (getD xs k 0) s) end l e (eq-eqb (getD xs end 0) s (past-end end (omega arith) l ∙ sym z)))
-      (λ h. let q : end ≡ n = omega arith in q ∙ lowest-end n (λ k. eqb (getD xs k 0) s) end (omega arith) h e) (lt-or-le end n)
-
-  pub place-none : (s ≡ 0 → ⊥) → n ≡ lowest n (λ k. eqb (getD xs k 0) s)
-  place-none z =
-      lowest-end n (λ k. eqb (getD xs k 0) s) n (omega arith) (omega arith)
-      (any-of n (λ k. eqb (getD xs k 0) s) (λ k l.
-      ⊎-elim (λ b. any-at end (λ k. eqb (getD xs k 0) s) e k b)
-      (λ h. ne-eqb (getD xs k 0) s (λ q. z (sym q ∙ past-end k h l))) (lt-or-le k end)))
-
--- ---- `shifted`
 
 module _ (xs : List ℕ) (from to by : ℕ) where
   pub shifted-in : (j : ℕ) → from ≤ j → j < to → shifted xs from to by j ≡ getD xs (j + by) 0

@@ -1,8 +1,5 @@
 -- Where a row of tags lies: M tags for each of at most 128 places, M at most 32.
 use Prim.Native.Nat.{ℕ, suc, _+_, _*_, _≤_, _<_}
-use mathlib.Core.Path.{_≡_}
-use mathlib.Core.List.{List}
-use lib.ListN.{length}
 use native.Mathlib.Nat.{mul-le-mul, suc-mul, le-refl}
 use native.Mathlib.Omega.{arith}
 use mir.Val.{Fits}
@@ -11,10 +8,6 @@ use mir.Syntax.{w32, w64}
 -- Two numbers of 32 bits have a product of 64.
 pub product-fits : (p m : ℕ) → Fits w32 p → Fits w32 m → Fits w64 (p * m)
 product-fits p m h l = let q : p * m ≤ 4294967295 * 4294967295 = mul-le-mul {n₂ = 4294967295} {m₂ = 4294967295} (omega arith) (omega arith) in omega arith
-
--- The rows of all places are there.
-pub rows-there : (p m r : ℕ) (xs : List ℕ) → p ≤ 128 → m ≤ 32 → r ≡ p * m → length xs ≡ 4096 → r ≤ length xs
-rows-there p m r xs h l e n = let q : p * m ≤ 128 * 32 = mul-le-mul h l in omega arith
 
 -- 32 tags from the row of a process on are there.
 pub row-room : (p m : ℕ) → p < 128 → m ≤ 32 → p * m + 32 ≤ 4096
@@ -26,14 +19,3 @@ row-under m i k h = let q : suc i * m ≤ k * m = mul-le-mul h (le-refl m) in le
 
 pub row-over : (m i k : ℕ) → k ≤ i → k * m ≤ i * m
 row-over m i k h = mul-le-mul h (le-refl m)
-
--- One tag of a row.
-module _ (p m r i : ℕ) (e : r ≡ p * m) (h : p < 128) (l : m ≤ 32) (k : i < m) where
-  pub row-at : r + i < 4096
-  row-at = let q = row-room p m h l in omega arith
-
-  pub row-fits : Fits w64 (r + i)
-  row-fits = let q = row-at in omega arith
-
-  pub row-scaled : Fits w64 ((r + i) * 4)
-  row-scaled = let q = row-at in omega arith

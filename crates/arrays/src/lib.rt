@@ -1,11 +1,13 @@
-// The loops over lent arrays: where a serial stands, how places move down, and how a row of tags is copied and written.
+// The loops over lent arrays: tests of a range, where a serial stands, how places move down, and how words and rows of tags
+// are copied and written. What is public takes any numbers: none reads or stores past an end.
 ghost use mathlib.Core.Path.{_≡_};
+ghost use mathlib.Core.Bool.{true, cond, _&&_};
 ghost use Prim.Native.Nat.{ℕ, _<_, _≤_, _+_, _-_, _*_, min};
-ghost use lib.ListN.{getD, length};
-ghost use lib.Dec.{eqb};
-ghost use Rattle.lists.specs.Numbers.{lowest, tabulate};
+ghost use lib.ListN.{getD, length, set};
+ghost use lib.Dec.{ltb, leb};
+ghost use Rattle.lists.specs.Numbers.{every, tabulate};
 ghost use Rattle.lists.specs.Writes.{written};
-ghost use Rattle.arrays.specs.Places.{shifted, childTag};
+ghost use Rattle.arrays.specs.Places.{holds, rises, Split, Located, copied, shifted, childTag};
 
 // The lesser of two numbers.
 fn least(a: usize, b: usize) -> usize
@@ -14,23 +16,139 @@ fn least(a: usize, b: usize) -> usize
     if a < b { a } else { b }
 }
 
-// The place of a serial among the first n, and n where none has it.
-pub fn place_of(serials: &[u32], n: usize, serial: u32) -> usize
-    ensures { λ r. ⌜ r ≡ lowest n (λ i. eqb (getD (now (serials .entry)) i 0) serial) ⌝ }
+// A word as an index.
+pub fn index(x: u32) -> usize
+    ensures { λ r. ⌜ r ≡ x ⌝ }
 {
-    let end = least(n, serials.len());
+    x as usize
+}
+
+// Stores at a place; past the end nothing.
+pub fn put(xs: &mut [u32], at: usize, v: u32)
+    ensures { λ _. ⌜ now (xs .exit) ≡ set (now (xs .entry)) at v ⌝ }
+{
+    if at < xs.len() {
+        xs[at] = v;
+    }
+}
+
+// Whether n places from `from` on stand in a list of that length. The sum itself may not fit.
+pub fn is_within(len: usize, from: usize, n: usize) -> bool
+    ensures { λ r. ⌜ r ≡ leb (from + n) len ⌝ }
+{
+    if len < n {
+        return false;
+    }
+    from <= len - n
+}
+
+// Whether n numbers stand from `from` on, each below the bound. The loop does not leave early, so that it runs on vectors.
+pub fn all_below(xs: &[u32], from: usize, n: usize, bound: u32) -> bool
+    ensures { λ r. ⌜ r ≡ (holds (now (xs .entry)) from n && every n (λ i. ltb (getD (now (xs .entry)) (from + i) 0) bound)) ⌝ }
+{
+    if !is_within(xs.len(), from, n) {
+        return false;
+    }
+    let mut fits = true;
     let mut i: usize = 0;
-    while i < end {
-        if serials[i] == serial {
-            return i;
-        }
+    while i < n {
+        fits = fits & (xs[from + i] < bound);
         i += 1;
     }
-    // Past the end stands 0.
-    if serial == 0 {
-        return end;
+    fits
+}
+
+// The same, each at most the top.
+pub fn none_above(xs: &[u32], from: usize, n: usize, top: u32) -> bool
+    ensures { λ r. ⌜ r ≡ (holds (now (xs .entry)) from n && every n (λ i. leb (getD (now (xs .entry)) (from + i) 0) top)) ⌝ }
+{
+    if !is_within(xs.len(), from, n) {
+        return false;
     }
-    n
+    let mut fits = true;
+    let mut i: usize = 0;
+    while i < n {
+        fits = fits & (xs[from + i] <= top);
+        i += 1;
+    }
+    fits
+}
+
+// The same, each below the one after it.
+pub fn is_rising(xs: &[u32], from: usize, n: usize) -> bool
+    ensures { λ r. ⌜ r ≡ rises (now (xs .entry)) from n ⌝ }
+{
+    if !is_within(xs.len(), from, n) {
+        return false;
+    }
+    let mut fits = true;
+    let mut i: usize = 0;
+    while i + 1 < n {
+        fits = fits & (xs[from + i] < xs[from + i + 1]);
+        i += 1;
+    }
+    fits
+}
+
+// 1 where the test passed: a loop that adds these up has no branch.
+fn one_if(passed: bool) -> u32
+    ensures { λ r. ⌜ (r ≡ cond passed 1 0) × (r ≤ 1) ⌝ }
+{
+    if passed { 1 } else { 0 }
+}
+
+// How many of n rising numbers are below the serial. Counting all of them on vectors takes less time than a search by halves,
+// whose branches cannot be foretold.
+fn count_below(xs: &[u32], from: usize, n: u32, serial: u32) -> u32
+    requires { ⌜ from + n ≤ length (now xs) ⌝ }
+    ensures { λ r. ⌜ (r ≤ n) × (rises (now (xs .entry)) from n ≡ true → Split (now (xs .entry)) from n serial r) ⌝ }
+{
+    let mut below: u32 = 0;
+    let mut i: u32 = 0;
+    while i < n {
+        below = below + one_if(xs[from + index(i)] < serial);
+        i += 1;
+    }
+    below
+}
+
+// The place of a serial among n rising numbers, counted from `from` on, and n where none has it.
+pub fn place_of(xs: &[u32], from: usize, n: u32, serial: u32) -> usize
+    ensures { λ r. ⌜ Located (now (xs .entry)) from n serial r ⌝ }
+{
+    let all = index(n);
+    if !is_within(xs.len(), from, all) {
+        return all;
+    }
+    let low = index(count_below(xs, from, n, serial));
+    if all <= low {
+        return all;
+    }
+    if xs[from + low] == serial {
+        return low;
+    }
+    all
+}
+
+// Copies n words from a place in one list to a place in another.
+fn copy_all(words: &[u32], from: usize, into: &mut [u32], at: usize, n: usize)
+    requires { ⌜ (from + n ≤ length (now words)) × (at + n ≤ length (now into)) ⌝ }
+    ensures { λ _. ⌜ ((j : ℕ) → getD (now (into .exit)) j 0 ≡ written (now (into .entry)) at n (λ i. getD (now (words .entry)) (from + i) 0) j) ⌝ }
+{
+    let mut i: usize = 0;
+    while i < n {
+        into[at + i] = words[from + i];
+        i += 1;
+    }
+}
+
+// The same for any numbers: nothing is copied where either range passes an end.
+pub fn copy_words(words: &[u32], from: usize, into: &mut [u32], at: usize, n: usize)
+    ensures { λ _. ⌜ ((j : ℕ) → getD (now (into .exit)) j 0 ≡ written (now (into .entry)) at (copied (now (words .entry)) from (now (into .entry)) at n) (λ i. getD (now (words .entry)) (from + i) 0) j) ⌝ }
+{
+    if is_within(words.len(), from, n) & is_within(into.len(), at, n) {
+        copy_all(words, from, into, at, n);
+    }
 }
 
 // Where the tags of a place begin, of m identifiers.
@@ -59,30 +177,12 @@ fn slide(xs: &mut [u32], from: usize, to: usize, by: usize)
     }
 }
 
-fn slide_u8(bytes: &mut [u8], from: usize, to: usize, by: usize)
-    requires { ⌜ (from ≤ to) × (to ≤ length (now bytes) - by) ⌝ }
-    ensures { λ _. ⌜ ((j : ℕ) → getD (now (bytes .exit)) j 0 ≡ shifted (now (bytes .entry)) from to by j) ⌝ }
-{
-    let mut i = from;
-    while i < to {
-        bytes[i] = bytes[i + by];
-        i += 1;
-    }
-}
-
 // The same for any numbers: nothing is brought from past the end.
 pub fn shift(xs: &mut [u32], from: usize, to: usize, by: usize)
     ensures { λ _. ⌜ ((j : ℕ) → getD (now (xs .exit)) j 0 ≡ shifted (now (xs .entry)) from (min to (length (now (xs .entry)) - by)) by j) ⌝ }
 {
     let end = least(to, left(xs.len(), by));
     slide(xs, least(from, end), end, by);
-}
-
-pub fn shift_u8(bytes: &mut [u8], from: usize, to: usize, by: usize)
-    ensures { λ _. ⌜ ((j : ℕ) → getD (now (bytes .exit)) j 0 ≡ shifted (now (bytes .entry)) from (min to (length (now (bytes .entry)) - by)) by j) ⌝ }
-{
-    let end = least(to, left(bytes.len(), by));
-    slide_u8(bytes, least(from, end), end, by);
 }
 
 // The 32 tags from a place on.

@@ -1,102 +1,141 @@
 -- The ways out of a send, as the code meets them.
 use Prim.Native.Nat.{ℕ, _+_, _*_, _≤_, _<_}
-use mathlib.Core.Path.{_≡_, sym, ap, ap₂, _∙_}
+use mathlib.Core.Path.{_≡_, refl, sym, ap, ap₂, _∙_, subst}
 use mathlib.Core.Bool.{Bool, true, false, not, _&&_, _||_, cond}
 use mathlib.Core.List.{List}
-use lib.Dec.{eqb}
-use lib.ListN.{getD}
-use borrow.Author.Tests.{eq-eqb, ne-eqb}
-use Rattle.lists.specs.Numbers.{every, lowest, tabulate}
+use native.Mathlib.Omega.{arith}
+use lib.Dec.{eqb, leb}
+use lib.ListN.{length, getD}
+use borrow.Author.Tests.{eq-eqb, ne-eqb, leb-true, not-true, not-false}
+use Rattle.lists.specs.Numbers.{every, lowest}
+use Rattle.lists.proofs.Tests.{and-left, and-right}
 use Rattle.lists.proofs.Every.{every-ext}
 use Rattle.lists.proofs.Tabulate.{getD-tabulate}
 use Rattle.mask.specs.Mask.{has}
-use Rattle.plan.specs.declared.Plan.{Plan}
+use Rattle.planrow.specs.Row.{identifiersIn}
 use Rattle.planrow.specs.Lookup.{planFor}
+use Rattle.arrays.specs.Places.{holds, Located}
+use Rattle.arrays.proofs.Ranges.{holds-there}
+use Rattle.arrays.proofs.Rows.{row-room}
 use Rattle.machine.specs.declared.Answer.the-variants.{Delivered, Held, Refused}
-use Rattle.machine.specs.Machine.{send, boxLimits, wellFormed, tag, passes, refuseIf, settled, ifDone, sendBy, answerTo, run}
-use Rattle.machine.specs.State.{Cells, placed, machineFrom}
-use Rattle.population.specs.Lent.{outcomeFrom}
-use Rattle.population.proofs.Fits.{gathered-more}
-use Rattle.population.proofs.RowFits.{row-identifiers}
-use Rattle.population.proofs.Lent.{run-bad, run-formed, found-none, found-some}
-use Rattle.delivery.specs.Delivery.{agrees}
+use Rattle.machine.specs.Machine.{Machine, send, boxLimits, wellFormed, agree, passes, refuseIf, settled, ifDone, sendBy, answerTo}
+use Rattle.machine.specs.State.{Cells, wordsFrom, placed, machineFrom}
+use Rattle.machine.proofs.Templates.{plan-few}
+use Rattle.population.specs.Arrays.{cells}
+use Rattle.population.specs.Lent.{settles, Tried}
+use Rattle.population.proofs.Fits.{formed-plan, formed-live, formed-identifiers}
+use Rattle.population.proofs.Lent.{tried-same, placed-at, found-none, found-some}
 
-pub agreed : (sender receiver sent held i : ℕ) (a b : Bool) → a ≡ has i sender → b ≡ has i receiver
-    → (not a || (b && eqb sent held)) ≡ agrees sender receiver sent held i
-unfolding agrees
-agreed sender receiver sent held i a b ea eb = ap₂ (λ (a b : Bool). not a || (b && eqb sent held)) ea eb
+-- ---- the test of the labels
 
--- One more identifier.
-pub passed-more : (sender receiver from to a b m i : ℕ) (tags : List ℕ) (passed r : Bool) → from ≡ a * m → to ≡ b * m
-    → passed ≡ every i (λ k. agrees sender receiver (getD tags (a * m + k) 0) (getD tags (b * m + k) 0) k)
-    → r ≡ agrees sender receiver (getD tags (from + i) 0) (getD tags (to + i) 0) i
-    → (passed && r) ≡ every (i + 1) (λ k. agrees sender receiver (getD tags (a * m + k) 0) (getD tags (b * m + k) 0) k)
-passed-more sender receiver from to a b m i tags passed r ea eb e h =
-    gathered-more i (λ k. agrees sender receiver (getD tags (a * m + k) 0) (getD tags (b * m + k) 0) k) passed r e
-    (h ∙ ap₂ (λ (from to : ℕ). agrees sender receiver (getD tags (from + i) 0) (getD tags (to + i) 0) i) ea eb)
+pub agreed : (label receiver sent held i : ℕ) (a b : Bool) → a ≡ has i label → b ≡ has i receiver
+    → (not a || (b && eqb sent held)) ≡ (not (has i label) || (has i receiver && eqb sent held))
+agreed label receiver sent held i a b ea eb = ap₂ (λ (a b : Bool). not a || (b && eqb sent held)) ea eb
 
--- The message from place a to place b.
-module _ (plan : Plan) (c : Cells) (a b : ℕ) where
+-- Both parts have the tags: x and y are their lengths, a and b the answers of `is_within`, n is m as an index.
+pub parts-there : (m n from to x y : ℕ) (a b : Bool) → n ≡ m → a ≡ leb (from + n) x → b ≡ leb (to + n) y → not (a && b) ≡ false
+    → (from + m ≤ x) × (to + m ≤ y)
+parts-there m n from to x y a b en ea eb h = (
+  subst (λ (n : ℕ). from + n ≤ x) en (leb-true (from + n) x (sym ea ∙ and-left a b (not-false (a && b) h))),
+  subst (λ (n : ℕ). to + n ≤ y) en (leb-true (to + n) y (sym eb ∙ and-right a b (not-false (a && b) h))),
+)
+
+module _ (m label : ℕ) (sent : List ℕ) (from receiver : ℕ) (held : List ℕ) (to : ℕ) where
+  -- The tags as they stand in the two parts.
+  pub agree-parts : every m (λ i. not (has i label) || (has i receiver && eqb (getD sent (from + i) 0) (getD held (to + i) 0)))
+      ≡ agree m label (wordsFrom m sent from) receiver (wordsFrom m held to)
+  unfolding agree wordsFrom
+  agree-parts =
+      every-ext m _ _ (λ i h. ap₂ (λ (t u : ℕ). not (has i label) || (has i receiver && eqb t u))
+      (sym (getD-tabulate m (λ i. getD sent (from + i) 0) i 0 h)) (sym (getD-tabulate m (λ i. getD held (to + i) 0) i 0 h)))
+
+  -- n is m as an index, a and b are the answers of `is_within`.
+  module _ (n : ℕ) (en : n ≡ m) (a b : Bool) (ea : a ≡ leb (from + n) (length sent)) (eb : b ≡ leb (to + n) (length held)) where
+    both-there : (a && b) ≡ (holds sent from m && holds held to m)
+    unfolding holds
+    both-there = ap₂ _&&_ (ea ∙ ap (λ (n : ℕ). leb (from + n) (length sent)) en) (eb ∙ ap (λ (n : ℕ). leb (to + n) (length held)) en)
+
+    pub passed-short : not (a && b) ≡ true
+        → false ≡ ((holds sent from m && holds held to m) && agree m label (wordsFrom m sent from) receiver (wordsFrom m held to))
+    passed-short h = ap (λ (t : Bool). t && agree m label (wordsFrom m sent from) receiver (wordsFrom m held to)) (sym (not-true (a && b) h) ∙ both-there)
+
+    pub passed-parts : not (a && b) ≡ false → (r : Bool)
+        → r ≡ every m (λ i. not (has i label) || (has i receiver && eqb (getD sent (from + i) 0) (getD held (to + i) 0)))
+        → r ≡ ((holds sent from m && holds held to m) && agree m label (wordsFrom m sent from) receiver (wordsFrom m held to))
+    passed-parts h r e =
+        e ∙ agree-parts ∙ ap (λ (t : Bool). t && agree m label (wordsFrom m sent from) receiver (wordsFrom m held to)) (sym (not-false (a && b) h) ∙ both-there)
+
+-- ---- the call; n is live as an index
+
+module _ (row : List ℕ) (next live n : ℕ) (xs ts ls gs : List ℕ) (from to : ℕ) (en : n ≡ live) (sized : length xs ≡ 128) where
+  abbrev c : Cells
+  c = cells xs ts ls gs
+
+  abbrev m : Machine
+  m = machineFrom (planFor row) next live c
+
   abbrev M : ℕ
-  M = plan .identifiers
+  M = planFor row .identifiers
 
-  abbrev row : ℕ → ℕ → ℕ
-  row p i = getD (c .tags) (p * M + i) 0
+  module _ (a : ℕ) (at-a : Located xs 0 live from a) where
+    found-a : wellFormed boxLimits m ≡ true → a ≡ lowest live (λ i. eqb (getD xs i 0) from)
+    found-a well = placed-at (planFor row) next live c well from a sized at-a
 
-  pub passes-places : passes plan (placed M c a) (placed M c b)
-      ≡ every M (λ i. agrees (getD (c .labels) a 0) (getD (c .labels) b 0) (row a i) (row b i) i)
-  unfolding passes placed tag agrees
-  passes-places =
-      every-ext M
-      (λ i. agrees (getD (c .labels) a 0) (getD (c .labels) b 0) (getD (tabulate M (row a)) i 0) (getD (tabulate M (row b)) i 0) i)
-      (λ i. agrees (getD (c .labels) a 0) (getD (c .labels) b 0) (row a i) (row b i) i)
-      (λ i h. ap₂ (λ (t u : ℕ). agrees (getD (c .labels) a 0) (getD (c .labels) b 0) t u i) (getD-tabulate M (row a) i 0 h) (getD-tabulate M (row b) i 0 h))
-
-module _ (row : List ℕ) (next live : ℕ) (c : Cells) (from to : ℕ) (g : Bool) (eg : g ≡ wellFormed boxLimits (machineFrom (planFor row) next live c)) where
-  pub sent-bad : not g ≡ true → outcomeFrom (Refused 20) (planFor row) next live c ≡ run boxLimits (machineFrom (planFor row) next live c) (send from to)
-  sent-bad h = sym (run-bad (planFor row) next live c g eg (send from to) h)
-
-  module _ (h : not g ≡ false) (a : ℕ) (ea : a ≡ lowest live (λ i. eqb (getD (c .serials) i 0) from)) where
-    pub sent-from-none : live ≤ a → outcomeFrom (Refused 21) (planFor row) next live c ≡ run boxLimits (machineFrom (planFor row) next live c) (send from to)
+    pub sent-from-none : n ≤ a → Tried (planFor row) next live (cells xs ts ls gs) (send from to) (settles (Refused 21) next live) (cells xs ts ls gs)
     unfolding answerTo sendBy settled ifDone machineFrom
     sent-from-none l =
-        sym (run-formed (planFor row) next live c g eg (send from to) h
-        ∙ rw (found-none (planFor row .identifiers) live c from a ea l))
+        tried-same (planFor row) next live c (send from to) (Refused 21) _ refl (λ well.
+        rw (found-none M live c from a (found-a well) (omega (arith, en))))
 
-    module _ (la : a < live) (b : ℕ) (eb : b ≡ lowest live (λ i. eqb (getD (c .serials) i 0) to)) where
-      pub sent-to-none : live ≤ b → outcomeFrom (Refused 21) (planFor row) next live c ≡ run boxLimits (machineFrom (planFor row) next live c) (send from to)
+    module _ (la : a < n) (b : ℕ) (at-b : Located xs 0 live to b) where
+      found-b : wellFormed boxLimits m ≡ true → b ≡ lowest live (λ i. eqb (getD xs i 0) to)
+      found-b well = placed-at (planFor row) next live c well to b sized at-b
+
+      pub sent-to-none : n ≤ b → Tried (planFor row) next live (cells xs ts ls gs) (send from to) (settles (Refused 21) next live) (cells xs ts ls gs)
       unfolding answerTo sendBy settled ifDone machineFrom
       sent-to-none l =
-          sym (run-formed (planFor row) next live c g eg (send from to) h
-          ∙ rw (found-some (planFor row .identifiers) live c from a ea la, found-none (planFor row .identifiers) live c to b eb l))
+          tried-same (planFor row) next live c (send from to) (Refused 21) _ refl (λ well.
+          rw (found-some M live c from a (found-a well) (omega (arith, en)), found-none M live c to b (found-b well) (omega (arith, en))))
 
-      module _ (lb : b < live) where
-        pub sent-itself : from ≡ to → outcomeFrom (Refused 26) (planFor row) next live c ≡ run boxLimits (machineFrom (planFor row) next live c) (send from to)
+      module _ (lb : b < n) where
+        pub sent-itself : from ≡ to → Tried (planFor row) next live (cells xs ts ls gs) (send from to) (settles (Refused 26) next live) (cells xs ts ls gs)
         unfolding answerTo sendBy settled ifDone machineFrom refuseIf
         sent-itself e =
-            sym (run-formed (planFor row) next live c g eg (send from to) h
-            ∙ rw (found-some (planFor row .identifiers) live c from a ea la, found-some (planFor row .identifiers) live c to b eb lb, eq-eqb from to e))
+            tried-same (planFor row) next live c (send from to) (Refused 26) _ refl (λ well.
+            rw (found-some M live c from a (found-a well) (omega (arith, en)), found-some M live c to b (found-b well) (omega (arith, en)), eq-eqb from to e))
 
-        sent-passes : (from ≡ to → ⊥) → run boxLimits (machineFrom (planFor row) next live c) (send from to)
-            ≡ settled (machineFrom (planFor row) next live c) (cond (passes (planFor row) (placed (planFor row .identifiers) c a) (placed (planFor row .identifiers) c b)) Delivered Held) (machineFrom (planFor row) next live c)
-        unfolding answerTo sendBy machineFrom refuseIf
-        sent-passes e =
-            run-formed (planFor row) next live c g eg (send from to) h
-            ∙ rw (found-some (planFor row .identifiers) live c from a ea la, found-some (planFor row .identifiers) live c to b eb lb, ne-eqb from to e)
+        -- m is the row's number of identifiers, f and t where the two rows of tags begin, r the answer of `is_passed`.
+        module _ (e : from ≡ to → ⊥) (k f t : ℕ) (ek : k ≡ identifiersIn row) (ef : f ≡ a * k) (et : t ≡ b * k) (room : length gs ≡ 4096) (r : Bool)
+            (er : r ≡ ((holds gs f k && holds gs t k) && agree k (getD ls a 0) (wordsFrom k gs f) (getD ls b 0) (wordsFrom k gs t))) where
+          there : (p f : ℕ) → f ≡ p * k → p < 128 → k ≤ 32 → holds gs f k ≡ true
+          there p f ef h few = holds-there gs f k (let q = row-room p k h few in omega (arith, ef, room))
 
-        module _ (e : from ≡ to → ⊥) (r : Bool)
-            (er : r ≡ every (getD row 1 0) (λ i. agrees (getD (c .labels) a 0) (getD (c .labels) b 0)
-            (getD (c .tags) (a * getD row 1 0 + i) 0) (getD (c .tags) (b * getD row 1 0 + i) 0) i)) where
-          passed : passes (planFor row) (placed (planFor row .identifiers) c a) (placed (planFor row .identifiers) c b) ≡ r
-          passed =
-              passes-places (planFor row) c a b
-              ∙ ap (λ (m : ℕ). every m (λ i. agrees (getD (c .labels) a 0) (getD (c .labels) b 0) (getD (c .tags) (a * m + i) 0) (getD (c .tags) (b * m + i) 0) i))
-              (row-identifiers row next live c g eg h) ∙ sym er
+          passed : wellFormed boxLimits m ≡ true → passes (planFor row) (getD ls a 0) (placed M c a .tags) (placed M c b) ≡ r
+          unfolding passes placed
+          passed well =
+              ap (λ (k : ℕ). agree k (getD ls a 0) (wordsFrom k gs (a * k)) (getD ls b 0) (wordsFrom k gs (b * k))) M-is
+              ∙ ap₂ (λ (f t : ℕ). agree k (getD ls a 0) (wordsFrom k gs f) (getD ls b 0) (wordsFrom k gs t)) (sym ef) (sym et)
+              ∙ sym (er ∙ ap₂ (λ (u v : Bool). (u && v) && agree k (getD ls a 0) (wordsFrom k gs f) (getD ls b 0) (wordsFrom k gs t)) (there a f ef (omega (arith, en, many)) few) (there b t et (omega (arith, en, many)) few))
+            where
+              M-is : M ≡ k
+              M-is = formed-identifiers row next live c well ∙ sym ek
 
-          pub sent-delivered : r ≡ true → outcomeFrom Delivered (planFor row) next live c ≡ run boxLimits (machineFrom (planFor row) next live c) (send from to)
+              many : live ≤ 128
+              many = formed-live (planFor row) next live c well
+
+              few : k ≤ 32
+              few = subst (λ (k : ℕ). k ≤ 32) M-is (plan-few (planFor row) (formed-plan (planFor row) next live c well))
+
+          settled-send : wellFormed boxLimits m ≡ true → answerTo boxLimits m (send from to) ≡ settled m (cond r Delivered Held) m
+          unfolding answerTo sendBy machineFrom refuseIf placed
+          settled-send well =
+              rw (found-some M live c from a (found-a well) (omega (arith, en)), found-some M live c to b (found-b well) (omega (arith, en)), ne-eqb from to e)
+              (ap (λ (r : Bool). settled m (cond r Delivered Held) m) (passed well))
+
+          pub sent-delivered : r ≡ true → Tried (planFor row) next live (cells xs ts ls gs) (send from to) (settles Delivered next live) (cells xs ts ls gs)
           unfolding settled ifDone
-          sent-delivered q = sym (sent-passes e ∙ rw (passed ∙ q))
+          sent-delivered q = tried-same (planFor row) next live c (send from to) Delivered _ refl (λ well. sym (settled-send well ∙ rw q refl))
 
-          pub sent-held : r ≡ false → outcomeFrom Held (planFor row) next live c ≡ run boxLimits (machineFrom (planFor row) next live c) (send from to)
+          pub sent-held : r ≡ false → Tried (planFor row) next live (cells xs ts ls gs) (send from to) (settles Held next live) (cells xs ts ls gs)
           unfolding settled ifDone
-          sent-held q = sym (sent-passes e ∙ rw (passed ∙ q))
+          sent-held q = tried-same (planFor row) next live c (send from to) Held _ refl (λ well. sym (settled-send well ∙ rw q refl))

@@ -1,53 +1,64 @@
-// Document 01, Send, on a lent row and lent arrays.
+// Document 01, Send, on a lent row and lent arrays, below refusal 20.
 use machine::Answer;
+use planrow::WORDS;
 ghost use mathlib.Core.Path.{_≡_};
-ghost use Prim.Native.Nat.{_<_, _≤_, _+_, _*_};
-ghost use lib.ListN.{getD};
-ghost use Rattle.lists.specs.Numbers.{every};
+ghost use mathlib.Core.Bool.{not, _&&_, _||_};
+ghost use mathlib.Core.List.{List};
+ghost use Prim.Native.Nat.{ℕ};
+ghost use lib.Dec.{eqb};
+ghost use Rattle.mask.specs.Mask.{has};
 ghost use Rattle.planrow.specs.Lookup.{planFor};
-ghost use Rattle.machine.specs.Machine.{boxLimits, send, run};
-ghost use Rattle.machine.specs.State.{machineFrom};
+ghost use Rattle.machine.specs.Machine.{send, agree};
+ghost use Rattle.machine.specs.State.{wordsFrom};
+ghost use Rattle.arrays.specs.Places.{holds};
 ghost use Rattle.population.specs.Arrays.{cells};
-ghost use Rattle.population.specs.Lent.{outcomeFrom};
-ghost use Rattle.delivery.specs.Delivery.{agrees};
+ghost use Rattle.population.specs.Lent.{settles, Tried};
 
 // Whether identifier i holds nothing back: it is not in the sender's label, or it is in both and the tags are equal.
-fn is_agreed(sender: u32, receiver: u32, sent: u32, held: u32, i: u32) -> bool
-    ensures { λ r. ⌜ r ≡ agrees sender receiver sent held i ⌝ }
+fn is_agreed(label: u32, receiver: u32, sent: u32, held: u32, i: u32) -> bool
+    ensures { λ r. ⌜ r ≡ (not (has i label) || (has i receiver && eqb sent held)) ⌝ }
 {
-    !mask::contains_u32(sender, i) | (mask::contains_u32(receiver, i) & (sent == held))
+    !mask::contains_u32(label, i) | (mask::contains_u32(receiver, i) & (sent == held))
 }
 
-// Whether a message from the process at place a, of label sender, to that at place b, of label receiver, is delivered.
-fn is_passed(tags: &[u32; 4096], m: u32, a: usize, b: usize, sender: u32, receiver: u32) -> bool
-    requires { ⌜ (a < 128) × (b < 128) × (m ≤ 32) ⌝ }
-    ensures { λ r. ⌜ r ≡ every m (λ i. agrees sender receiver (getD (now (tags .entry)) (a * m + i) 0) (getD (now (tags .entry)) (b * m + i) 0) i) ⌝ }
+// Whether what a sender wears, a label and m tags from a place on, passes to a receiver of that label whose tags stand from
+// another place on; not where either part ends too soon.
+pub fn is_passed(
+    m: u32,
+    label: u32,
+    sent: &[u32],
+    from: usize,
+    receiver: u32,
+    held: &[u32],
+    to: usize,
+) -> bool
+    ensures { λ r. ⌜ r ≡ ((holds (now (sent .entry)) from m && holds (now (held .entry)) to m) && agree m label (wordsFrom m (now (sent .entry)) from) receiver (wordsFrom m (now (held .entry)) to)) ⌝ }
 {
-    let from = arrays::row_start(a as u32, m);
-    let to = arrays::row_start(b as u32, m);
-    let mut passed = true;
+    let n = arrays::index(m);
+    if !(arrays::is_within(sent.len(), from, n) & arrays::is_within(held.len(), to, n)) {
+        return false;
+    }
+    let mut agreed = true;
     let mut i: u32 = 0;
     while i < m {
-        passed = passed
+        agreed = agreed
             & is_agreed(
-                sender,
+                label,
                 receiver,
-                tags[from + (i as usize)],
-                tags[to + (i as usize)],
+                sent[from + (i as usize)],
+                held[to + (i as usize)],
                 i,
             );
         i += 1;
     }
-    passed
+    agreed
 }
 
-// Document 01, Send: 20; 21 if either is not live; 26 if equal; else delivered exactly when the labels and tags allow.
-pub fn send<'a>(
-    row: &'a [u32; 514],
-    next: u32,
-    live: usize,
+// Document 01, Send: 21 if either is not live; 26 if equal; else delivered exactly when the labels and tags allow.
+pub fn attempt<'a>(
+    row: &'a [u32; WORDS],
+    live: u32,
     serials: &'a [u32; 128],
-    templates: &'a [u8; 128],
     labels: &'a [u32; 128],
     tags: &'a [u32; 4096],
     from: u32,
@@ -55,25 +66,32 @@ pub fn send<'a>(
 ) -> Answer
     ensures { λ r.
         let plan = planFor (now (row .entry)) in
-        let c = cells (now (serials .entry)) (now (templates .entry)) (now (labels .entry)) (now (tags .entry)) in
-        ⌜ outcomeFrom r plan next live c ≡ run boxLimits (machineFrom plan next live c) (send from to) ⌝ }
+        ⌜ ((next : ℕ) (templates : List ℕ) →
+        let c = cells (now (serials .entry)) templates (now (labels .entry)) (now (tags .entry)) in
+        Tried plan next live c (send from to) (settles r next live) c) ⌝ }
 {
-    if !population::is_well_formed(row, next, live, serials, templates, labels, tags) {
-        return Answer::Refused(population::BAD_STATE);
-    }
-    let a = arrays::place_of(serials, live, from);
-    if live <= a {
+    let n = arrays::index(live);
+    let a = arrays::place_of(serials, 0, live, from);
+    if n <= a {
         return Answer::Refused(population::NOT_LIVE);
     }
-    let b = arrays::place_of(serials, live, to);
-    if live <= b {
+    let b = arrays::place_of(serials, 0, live, to);
+    if n <= b {
         return Answer::Refused(population::NOT_LIVE);
     }
     if from == to {
         return Answer::Refused(population::TO_ITSELF);
     }
-    let m = row[1];
-    if is_passed(tags, m, a, b, labels[a], labels[b]) {
+    let m = planrow::identifier_count(row);
+    if is_passed(
+        m,
+        labels[a],
+        tags,
+        arrays::row_start(a as u32, m),
+        labels[b],
+        tags,
+        arrays::row_start(b as u32, m),
+    ) {
         Answer::Delivered
     } else {
         Answer::Held

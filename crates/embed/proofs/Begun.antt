@@ -1,12 +1,11 @@
 -- What start leaves, as the code meets it: `begun` is what monitor::start gave.
-use Prim.Native.Nat.{ℕ, _≤_}
-use mathlib.Core.Path.{_≡_, refl, sym, ap, ap₂, _∙_, subst}
+use Prim.Native.Nat.{ℕ}
+use mathlib.Core.Path.{_≡_, refl, sym, ap, _∙_, subst}
 use mathlib.Core.Logic.{_≢_}
 use mathlib.Core.List.{List, [], _∷_}
 use mathlib.Core.Option.{some}
 use native.Mathlib.Omega.{arith}
 use lib.ListN.{length}
-use Rattle.lists.specs.Numbers.{tabulate}
 use Rattle.lists.proofs.Length.{getD-same}
 use Rattle.plan.specs.declared.Template.{Template}
 use Rattle.plan.specs.declared.Plan.{Plan}
@@ -18,8 +17,7 @@ use Rattle.rules.specs.Judge.{judge}
 use Rattle.machine.specs.declared.State.{State}
 use Rattle.machine.specs.declared.Started.{Started}
 use Rattle.machine.specs.Machine.{Machine, start}
-use Rattle.machine.specs.State.{Cells, processesOf, machineFrom, machineOf, blankState, startOn, started}
-use Rattle.population.proofs.Fits.{length-processes}
+use Rattle.machine.specs.State.{Cells, machineFrom, machineOf, blankState, startOn, started}
 use Rattle.planrow.specs.Row.{planOfRow, rowOfPlan}
 use Rattle.planrow.proofs.RoundTrip.{row-means}
 use Rattle.monitor.proofs.Starting.{accepted-means}
@@ -29,17 +27,11 @@ at-blank : (X : ℕ) → at noPlan X ≡ blank
 unfolding at
 at-blank X = getD-same Template 64 X blank
 
--- The blank plan's row means it too.
+-- The row of the plan without templates means it too.
 blank-means : planOfRow (rowOfPlan noPlan) ≡ some noPlan
 blank-means = row-means noPlan (omega arith) (λ X Y h s. omega arith) (λ X h. at-blank X) refl
 
 module _ (planText policyText : List ℕ) where
-  one-at-most : (v : Verdict) → length (startOn v (readPlan planText .plan) .live) ≤ 1
-  unfolding startOn start machineOf machineFrom processesOf tabulate
-  one-at-most Accepted = omega arith
-  one-at-most (Broken b) = omega arith
-  one-at-most (Unread f) = omega arith
-
   started-means : (v : Verdict) → judge planText policyText ≡ v → length (startOn v (readPlan planText .plan) .plan .templates) ≡ 64
       → planOfRow (rowOfPlan (startOn v (readPlan planText .plan) .plan)) ≡ some (startOn v (readPlan planText .plan) .plan)
   unfolding startOn start machineOf machineFrom
@@ -48,32 +40,24 @@ module _ (planText policyText : List ℕ) where
   started-means (Unread f) e sized = blank-means
 
   module _ (begun : Started) (w : (begun .verdict ≡ judge planText policyText) × (machineOf (begun .state) ≡ started planText policyText) × (begun .verdict ≢ Accepted → begun .state ≡ blankState)) where
-    pub begun-few : begun .state .live ≤ 4294967295
-    unfolding machineOf machineFrom started
-    begun-few =
-        subst (λ (n : ℕ). n ≤ 4294967295)
-        (sym (sym (length-processes (begun .state .plan) (begun .state .next) (begun .state .live) _) ∙ ap (λ (m : Machine). length (m .live)) (w .1)))
-        (let h = one-at-most (judge planText policyText) in omega arith)
-
     same-plan : begun .state .plan ≡ started planText policyText .plan
     unfolding machineOf machineFrom
     same-plan = ap (λ (m : Machine). m .plan) (w .1)
 
-    pub starts-so : (words row : List ℕ) (live : ℕ) → words ≡ verdictWords (begun .verdict) → row ≡ rowOfPlan (begun .state .plan) → live ≡ begun .state .live
+    pub starts-so : (words row : List ℕ) → words ≡ verdictWords (begun .verdict) → row ≡ rowOfPlan (begun .state .plan)
         → length (begun .state .plan .templates) ≡ 64
-        → Starts planText policyText words row (held (begun .state .next ∷ live ∷ []) (begun .state .serials) (begun .state .templates) (begun .state .labels) (begun .state .tags))
+        → Starts planText policyText words row (held (begun .state .next ∷ begun .state .live ∷ []) (begun .state .serials) (begun .state .templates) (begun .state .labels) (begun .state .tags))
     unfolding started machineIn machineOf
-    starts-so words row live ew er el sized = record {
+    starts-so words row ew er sized = record {
       judged = ew ∙ ap verdictWords (w .0);
       written = er ∙ ap rowOfPlan same-plan;
       means =
           ap planOfRow (er ∙ ap rowOfPlan same-plan)
           ∙ started-means (judge planText policyText) refl (subst (λ (p : Plan). length (p .templates) ≡ 64) same-plan sized);
       machine =
-          ap₂ (λ (p : Plan) (n : ℕ). machineFrom p (begun .state .next) n cells) (sym same-plan) el ∙ w .1;
+          ap (λ (p : Plan). machineFrom p (begun .state .next) (begun .state .live) cells) (sym same-plan) ∙ w .1;
       blank = λ n.
-          ap (λ (l : ℕ). held (begun .state .next ∷ l ∷ []) (begun .state .serials) (begun .state .templates) (begun .state .labels) (begun .state .tags)) el
-          ∙ ap (λ (s : State). held (s .next ∷ s .live ∷ []) (s .serials) (s .templates) (s .labels) (s .tags)) (w .2 (λ a. n (sym (w .0) ∙ a)));
+          ap (λ (s : State). held (s .next ∷ s .live ∷ []) (s .serials) (s .templates) (s .labels) (s .tags)) (w .2 (λ a. n (sym (w .0) ∙ a)));
     }
       where
         cells : Cells

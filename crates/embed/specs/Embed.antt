@@ -15,10 +15,10 @@ use Rattle.rules.specs.declared.Verdict.{Verdict}
 use Rattle.rules.specs.declared.Verdict.the-variants.{Accepted, Broken, Unread}
 use Rattle.rules.specs.Judge.{judge}
 use Rattle.machine.specs.declared.Answer.the-variants.{Done}
-use Rattle.machine.specs.Machine.{Machine, Call, boxLimits, run, start}
-use Rattle.machine.specs.State.{Cells, machineFrom, ifRefused, started}
+use Rattle.machine.specs.Machine.{Machine, Call, step, send, raise, lower, boxLimits, run, start}
+use Rattle.machine.specs.State.{Cells, machineFrom, unlessDone, started, codeOf}
 use Rattle.promise.specs.Promise.{Promised}
-use Rattle.promise.specs.Replay.{answers, callsIn, codeOf}
+use Rattle.promise.specs.Replay.{answers, callsIn}
 use Rattle.playback.specs.Playback.{Played, playable}
 use Rattle.planrow.specs.Row.{planOfRow, rowOfPlan}
 
@@ -71,13 +71,28 @@ pub record Starts (planText policyText : List ℕ) (verdict row : List ℕ) (aft
 
 -- ---- one call
 
+-- Nothing but the labels was touched.
+pub record LabelsAlone (before after : Held) : Type 0 where
+  pub place : after .place ≡ before .place
+  pub serials : after .cells .serials ≡ before .cells .serials
+  pub templates : after .cells .templates ≡ before .cells .templates
+  pub tags : after .cells .tags ≡ before .cells .tags
+
+-- What a call may touch, whatever it answers: of a send "the state stays".
+unfoldable pub Touches : Call → Held → Held → Type 0
+Touches (step s branch) before after = Prim.Unit
+Touches (send from to) before after = after ≡ before
+Touches (raise s i) before after = LabelsAlone before after
+Touches (lower s i) before after = LabelsAlone before after
+
 -- Where the row means that plan or none, the call met `before`, gave the number `code` and left `after`.
--- No plan: 20, and nothing is touched. Else the machine's answer and the machine; refused, nothing is touched.
+-- No plan: 20, and nothing is touched. Else the machine's answer and the machine; nothing is touched unless it is done.
 unfoldable pub Answers : Option Plan → Call → Held → ℕ → Held → Type 0
 Answers none call before code after = (code ≡ 20) × (after ≡ before)
 Answers (some plan) call before code after =
     let outcome = run boxLimits (machineIn plan before) call in
-    (code ≡ codeOf (outcome .answer)) × (machineIn plan after ≡ outcome .machine) × ifRefused (outcome .answer) (after ≡ before)
+    (code ≡ codeOf (outcome .answer)) × (machineIn plan after ≡ outcome .machine)
+    × unlessDone (outcome .answer) (after ≡ before) × Touches call before after
 
 -- ---- a list of calls
 

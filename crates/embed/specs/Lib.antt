@@ -1,2 +1,1 @@
 pub mod Embed
-pub mod Loading

@@ -1,31 +1,17 @@
 // The monitor for a program in another language: exported functions over memory that the caller lends. What each promises
 // to a C program stands in include/monitor.h.
-use machine::State;
-use plan::Plan;
+use planrow::WORDS;
 use rules::Text;
 use rules::Verdict;
 ghost use mathlib.Core.Path.{_≡_};
-ghost use Prim.Native.Nat.{_≤_, _/_, min};
+ghost use Prim.Native.Nat.{_/_, min};
 ghost use lib.ListN.{length, set};
 ghost use Rattle.machine.specs.Machine.{step, send, raise, lower};
+ghost use Rattle.machine.specs.State.{callOf};
 ghost use Rattle.planrow.specs.Row.{planOfRow};
 ghost use Rattle.rules.specs.Judge.{judge};
 ghost use Rattle.rules.specs.Show.{locate};
 ghost use Rattle.embed.specs.Embed.{textNumber, verdictWords, partWords, held, Starts, Answers, AllRefused, Runs, ReplayedAll};
-ghost use Rattle.embed.specs.Loading.{Loaded};
-
-fn wide(x: u32) -> usize
-    ensures { λ r. ⌜ (r ≡ x) × (r ≤ 4294967295) ⌝ }
-{
-    x as usize
-}
-
-fn narrow(x: usize) -> u32
-    requires { ⌜ x ≤ 4294967295 ⌝ }
-    ensures { λ r. ⌜ r ≡ x ⌝ }
-{
-    x as u32
-}
 
 // The two words of a place.
 fn store(place: &mut [u32], next: u32, live: u32)
@@ -80,7 +66,7 @@ pub extern "C" fn monitor_locate<'a>(plan: &'a [u8], policy: &'a [u8], words: &'
 {
     let part = showing::locate(plan, policy);
     let text = part.text;
-    *words = [wide(text_number(text)), part.start, part.end];
+    *words = [arrays::index(text_number(text)), part.start, part.end];
 }
 
 // Judges both texts; writes the verdict, and the started state, blank where it is not accepted.
@@ -89,10 +75,10 @@ pub extern "C" fn monitor_start<'a>(
     plan: &'a [u8],
     policy: &'a [u8],
     words: &'a mut [u32; 5],
-    row: &'a mut [u32; 514],
+    row: &'a mut [u32; WORDS],
     place: &'a mut [u32; 2],
     serials: &'a mut [u32; 128],
-    templates: &'a mut [u8; 128],
+    templates: &'a mut [u32; 128],
     labels: &'a mut [u32; 128],
     tags: &'a mut [u32; 4096],
 )
@@ -106,7 +92,7 @@ pub extern "C" fn monitor_start<'a>(
     *words = verdict_words(verdict);
     let read = state.plan;
     *row = planrow::row_of(read);
-    *place = [state.next, narrow(state.live)];
+    *place = [state.next, state.live];
     let s = state.serials;
     *serials = s;
     let t = state.templates;
@@ -117,13 +103,49 @@ pub extern "C" fn monitor_start<'a>(
     *tags = g;
 }
 
-// Document 01, Step, on a plan's row and the lent state.
-#[no_mangle]
-pub extern "C" fn monitor_step<'a>(
-    row: &'a [u32; 514],
+// One call on a plan's row and the lent state.
+fn call<'a>(
+    row: &'a [u32; WORDS],
     place: &'a mut [u32; 2],
     serials: &'a mut [u32; 128],
-    templates: &'a mut [u8; 128],
+    templates: &'a mut [u32; 128],
+    labels: &'a mut [u32; 128],
+    tags: &'a mut [u32; 4096],
+    kind: u32,
+    x: u32,
+    y: u32,
+) -> u32
+    ensures { λ r.
+        let h = held (now (place .entry)) (now (serials .entry)) (now (templates .entry)) (now (labels .entry)) (now (tags .entry)) in
+        let k = held (now (place .exit)) (now (serials .exit)) (now (templates .exit)) (now (labels .exit)) (now (tags .exit)) in
+        ⌜ Answers (planOfRow (now (row .entry))) (callOf kind x y) h r k ⌝ }
+{
+    let next = place[0];
+    let live = place[1];
+    let r = monitor::run_call(
+        row,
+        next,
+        live,
+        serials,
+        templates,
+        labels,
+        tags,
+        kind,
+        x,
+        y,
+    );
+    let answer = r.answer;
+    store(place, r.next, r.live);
+    playback::code_of(answer) as u32
+}
+
+// Document 01, Step.
+#[no_mangle]
+pub extern "C" fn monitor_step<'a>(
+    row: &'a [u32; WORDS],
+    place: &'a mut [u32; 2],
+    serials: &'a mut [u32; 128],
+    templates: &'a mut [u32; 128],
     labels: &'a mut [u32; 128],
     tags: &'a mut [u32; 4096],
     serial: u32,
@@ -134,120 +156,107 @@ pub extern "C" fn monitor_step<'a>(
         let k = held (now (place .exit)) (now (serials .exit)) (now (templates .exit)) (now (labels .exit)) (now (tags .exit)) in
         ⌜ Answers (planOfRow (now (row .entry))) (step serial branch) h r k ⌝ }
 {
-    let next = place[0];
-    let live = place[1];
-    let stepped = stepping::step(
+    call(
         row,
-        next,
-        wide(live),
+        place,
         serials,
         templates,
         labels,
         tags,
+        monitor::STEP,
         serial,
         branch,
-    );
-    let answer = stepped.answer;
-    store(place, stepped.next, narrow(stepped.live));
-    playback::code_of(answer) as u32
+    )
 }
 
 // Document 01, Send. "The state stays."
 #[no_mangle]
 pub extern "C" fn monitor_send<'a>(
-    row: &'a [u32; 514],
-    place: &'a [u32; 2],
-    serials: &'a [u32; 128],
-    templates: &'a [u8; 128],
-    labels: &'a [u32; 128],
-    tags: &'a [u32; 4096],
+    row: &'a [u32; WORDS],
+    place: &'a mut [u32; 2],
+    serials: &'a mut [u32; 128],
+    templates: &'a mut [u32; 128],
+    labels: &'a mut [u32; 128],
+    tags: &'a mut [u32; 4096],
     from: u32,
     to: u32,
 ) -> u32
     ensures { λ r.
         let h = held (now (place .entry)) (now (serials .entry)) (now (templates .entry)) (now (labels .entry)) (now (tags .entry)) in
-        ⌜ Answers (planOfRow (now (row .entry))) (send from to) h r h ⌝ }
+        let k = held (now (place .exit)) (now (serials .exit)) (now (templates .exit)) (now (labels .exit)) (now (tags .exit)) in
+        ⌜ Answers (planOfRow (now (row .entry))) (send from to) h r k ⌝ }
 {
-    let next = place[0];
-    let live = place[1];
-    let sent = delivery::send(
+    call(
         row,
-        next,
-        wide(live),
+        place,
         serials,
         templates,
         labels,
         tags,
+        monitor::SEND,
         from,
         to,
-    );
-    playback::code_of(sent) as u32
+    )
 }
 
 // Document 01, Raise. Only the labels change.
 #[no_mangle]
 pub extern "C" fn monitor_raise<'a>(
-    row: &'a [u32; 514],
-    place: &'a [u32; 2],
-    serials: &'a [u32; 128],
-    templates: &'a [u8; 128],
+    row: &'a [u32; WORDS],
+    place: &'a mut [u32; 2],
+    serials: &'a mut [u32; 128],
+    templates: &'a mut [u32; 128],
     labels: &'a mut [u32; 128],
-    tags: &'a [u32; 4096],
+    tags: &'a mut [u32; 4096],
     serial: u32,
     identifier: u32,
 ) -> u32
     ensures { λ r.
         let h = held (now (place .entry)) (now (serials .entry)) (now (templates .entry)) (now (labels .entry)) (now (tags .entry)) in
-        let k = held (now (place .entry)) (now (serials .entry)) (now (templates .entry)) (now (labels .exit)) (now (tags .entry)) in
+        let k = held (now (place .exit)) (now (serials .exit)) (now (templates .exit)) (now (labels .exit)) (now (tags .exit)) in
         ⌜ Answers (planOfRow (now (row .entry))) (raise serial identifier) h r k ⌝ }
 {
-    let next = place[0];
-    let live = place[1];
-    let raised = labelling::raise(
+    call(
         row,
-        next,
-        wide(live),
+        place,
         serials,
         templates,
         labels,
         tags,
+        monitor::RAISE,
         serial,
         identifier,
-    );
-    playback::code_of(raised) as u32
+    )
 }
 
 // Document 01, Lower. Only the labels change.
 #[no_mangle]
 pub extern "C" fn monitor_lower<'a>(
-    row: &'a [u32; 514],
-    place: &'a [u32; 2],
-    serials: &'a [u32; 128],
-    templates: &'a [u8; 128],
+    row: &'a [u32; WORDS],
+    place: &'a mut [u32; 2],
+    serials: &'a mut [u32; 128],
+    templates: &'a mut [u32; 128],
     labels: &'a mut [u32; 128],
-    tags: &'a [u32; 4096],
+    tags: &'a mut [u32; 4096],
     serial: u32,
     identifier: u32,
 ) -> u32
     ensures { λ r.
         let h = held (now (place .entry)) (now (serials .entry)) (now (templates .entry)) (now (labels .entry)) (now (tags .entry)) in
-        let k = held (now (place .entry)) (now (serials .entry)) (now (templates .entry)) (now (labels .exit)) (now (tags .entry)) in
+        let k = held (now (place .exit)) (now (serials .exit)) (now (templates .exit)) (now (labels .exit)) (now (tags .exit)) in
         ⌜ Answers (planOfRow (now (row .entry))) (lower serial identifier) h r k ⌝ }
 {
-    let next = place[0];
-    let live = place[1];
-    let lowered = labelling::lower(
+    call(
         row,
-        next,
-        wide(live),
+        place,
         serials,
         templates,
         labels,
         tags,
+        monitor::LOWER,
         serial,
         identifier,
-    );
-    playback::code_of(lowered) as u32
+    )
 }
 
 // 20 for each call of a row that means no plan.
@@ -257,7 +266,7 @@ fn refuse_all(words: usize, answers: &mut [u8]) -> usize
     let n = playback::call_count(words, answers.len());
     let mut i: usize = 0;
     while i < n {
-        answers[i] = 20;
+        answers[i] = population::BAD_STATE;
         i += 1;
     }
     n
@@ -266,10 +275,10 @@ fn refuse_all(words: usize, answers: &mut [u8]) -> usize
 // A list of calls, three words each, run through the lent state; as many as there are words and places for.
 #[no_mangle]
 pub extern "C" fn monitor_run<'a>(
-    row: &'a [u32; 514],
+    row: &'a [u32; WORDS],
     place: &'a mut [u32; 2],
     serials: &'a mut [u32; 128],
-    templates: &'a mut [u8; 128],
+    templates: &'a mut [u32; 128],
     labels: &'a mut [u32; 128],
     tags: &'a mut [u32; 4096],
     calls: &'a [u32],
@@ -288,7 +297,7 @@ pub extern "C" fn monitor_run<'a>(
     let ran = playback::run_calls(
         row,
         next,
-        wide(live),
+        live,
         serials,
         templates,
         labels,
@@ -296,7 +305,7 @@ pub extern "C" fn monitor_run<'a>(
         calls,
         answers,
     );
-    store(place, ran.next, narrow(ran.live));
+    store(place, ran.next, ran.live);
     ran.count
 }
 
@@ -315,70 +324,4 @@ pub extern "C" fn monitor_replay<'a>(
     let verdict = replayed.verdict;
     *words = verdict_words(verdict);
     replayed.count
-}
-
-// The state that the row's plan and the lent memory are.
-fn state_of<'a>(
-    plan: Plan,
-    place: &'a [u32; 2],
-    serials: &'a [u32; 128],
-    templates: &'a [u8; 128],
-    labels: &'a [u32; 128],
-    tags: &'a [u32; 4096],
-) -> State
-    ensures { λ r.
-        let h = held (now (place .entry)) (now (serials .entry)) (now (templates .entry)) (now (labels .entry)) (now (tags .entry)) in
-        ⌜ Loaded plan h r ⌝ }
-{
-    let s = *serials;
-    let t = *templates;
-    let l = *labels;
-    let g = *tags;
-    let live = place[1];
-    State {
-        plan: plan,
-        next: place[0],
-        live: wide(live),
-        serials: s,
-        templates: t,
-        labels: l,
-        tags: g,
-    }
-}
-
-// The same as monitor_run through the operations by value, to be compared with it.
-#[no_mangle]
-pub extern "C" fn monitor_run_values<'a>(
-    row: &'a [u32; 514],
-    place: &'a mut [u32; 2],
-    serials: &'a mut [u32; 128],
-    templates: &'a mut [u8; 128],
-    labels: &'a mut [u32; 128],
-    tags: &'a mut [u32; 4096],
-    calls: &'a [u32],
-    answers: &'a mut [u8],
-) -> usize
-    ensures { λ r.
-        let h = held (now (place .entry)) (now (serials .entry)) (now (templates .entry)) (now (labels .entry)) (now (tags .entry)) in
-        let k = held (now (place .exit)) (now (serials .exit)) (now (templates .exit)) (now (labels .exit)) (now (tags .exit)) in
-        ⌜ Runs (planOfRow (now (row .entry))) (now (calls .entry)) h (now (answers .entry)) r k (now (answers .exit)) ⌝ }
-{
-    let read = planrow::read_row(row);
-    if !read.known {
-        return refuse_all(calls.len(), answers);
-    }
-    let plan = read.plan;
-    let state = state_of(plan, place, serials, templates, labels, tags);
-    let ran = values::run_calls(state, calls, answers);
-    let after = ran.state;
-    store(place, after.next, narrow(after.live));
-    let s = after.serials;
-    *serials = s;
-    let t = after.templates;
-    *templates = t;
-    let l = after.labels;
-    *labels = l;
-    let g = after.tags;
-    *tags = g;
-    ran.count
 }

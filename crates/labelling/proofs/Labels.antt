@@ -1,32 +1,34 @@
--- The ways out of a raise and of a lower, as the code meets them.
-use Prim.Native.Nat.{ℕ, zero, suc, _+_, _*_, _%_, _^_, _≤_, _<_}
+-- The ways out of a raise or a lower, as the code meets them.
+use Prim.Native.Nat.{ℕ, _*_, _%_, _^_, _≤_, _<_}
 use mathlib.Core.Path.{_≡_, refl, sym, ap, ap₂, _∙_}
 use mathlib.Core.Bool.{Bool, true, false, not}
 use mathlib.Core.List.{List}
 use native.Mathlib.Nat.{one-mul, mod-eq-of-lt}
 use native.Mathlib.Omega.{arith}
+use lib.Bits.{bitOr}
 use lib.Dec.{eqb, ltb}
 use lib.ListN.{length, getD, set}
 use lib.Pow.{pow-lt}
 use lib.Seq.{getD-set-same, getD-set-other}
 use borrow.Author.Tests.{le-ltb, lt-ltb, ltb-true, not-false}
-use Rattle.lists.specs.Numbers.{lowest, tabulate}
+use Rattle.lists.specs.Numbers.{lowest}
 use Rattle.mask.specs.Mask.{has, plus, without}
 use Rattle.plan.specs.declared.Plan.{Plan}
 use Rattle.plan.specs.declared.Template.{Template}
-use Rattle.plan.specs.Plan.{at}
+use Rattle.planrow.specs.Row.{identifiersIn}
 use Rattle.planrow.specs.Lookup.{planFor, templateAt}
+use Rattle.arrays.specs.Places.{Located}
+use Rattle.machine.specs.declared.Answer.{Answer}
 use Rattle.machine.specs.declared.Answer.the-variants.{Done, Refused}
-use Rattle.machine.specs.Machine.{Process, Machine, Outcome, Call, raise, lower, boxLimits, wellFormed, refuseIf, relabel, moveAnswer, moved, settled, raiseBy, lowerBy, answerTo, run}
-use Rattle.machine.specs.State.{Cells, placed, processesOf, machineFrom}
+use Rattle.machine.specs.Machine.{Process, Machine, boxLimits, wellFormed, find, refuseIf, relabel, movable, labelWith, moveAnswer, moved, settled, moveBy, answerTo}
+use Rattle.machine.specs.State.{Cells, wordsFrom, placed, processesOf, machineFrom, unlessDone}
 use Rattle.machine.proofs.Places.{relabel-at}
+use Rattle.machine.proofs.Outcomes.{refuse-yes, refuse-no, refuse-done, settled-refused, settled-done}
 use Rattle.population.specs.Arrays.{cells}
-use Rattle.machine.specs.State.{ifRefused}
-use Rattle.population.specs.Lent.{Did, answerFor}
-use Rattle.population.proofs.Fits.{formed, few-live}
-use Rattle.population.proofs.RowFits.{row-identifiers, few-words, looked-at}
-use Rattle.population.proofs.Lent.{did-refused, refuse-yes, refuse-no, refuse-done, settled-refused, settled-done, run-bad, run-formed, found-none, found-some, found-serial, alone}
-use Rattle.labelling.specs.Labelling.{refusalOf}
+use Rattle.population.specs.Lent.{settles, Tried, answerFor}
+use Rattle.population.proofs.Fits.{formed-live, formed-identifiers, looked-at}
+use Rattle.population.proofs.Lent.{numbered, unless-step, tried-same, placed-at, found-none, found-some, found-serial, alone}
+use Rattle.labelling.specs.Labelling.{moves, refusalOf}
 
 -- The mask of one identifier.
 pub single-is : (i : ℕ) → i < 32 → 1 * 2 ^ i % 2 ^ 32 ≡ 2 ^ i
@@ -63,10 +65,6 @@ unfolding refusalOf
 not-refused M risk allowed i q e z =
     ltb-true i M (not-false (ltb i M) (refuse-done (not (ltb i M)) 27 _ (sym e ∙ ap answerFor z) .0))
 
-numbered : (q : ℕ) → (q ≡ 0 → ⊥) → answerFor q ≡ Refused q
-numbered zero n = absurd (n refl)
-numbered (suc q) n = refl
-
 -- ---- the arrays
 
 module _ (plan : Plan) (next live : ℕ) (xs ts ls gs : List ℕ) (well : wellFormed boxLimits (machineFrom plan next live (cells xs ts ls gs)) ≡ true) (k : ℕ) (h : k < live) where
@@ -80,101 +78,84 @@ module _ (plan : Plan) (next live : ℕ) (xs ts ls gs : List ℕ) (well : wellFo
       (λ i n. ap (with i) (ap (λ (l : List ℕ). getD l i 0) e ∙ getD-set-other ls k i label 0 n))
     where
       with : ℕ → ℕ → Process
-      with i label = record { serial = getD xs i 0; template = getD ts i 0; label = label; tags = tabulate (plan .identifiers) (λ j. getD gs (i * plan .identifiers + j) 0) }
+      with i label = record { serial = getD xs i 0; template = getD ts i 0; label = label; tags = wordsFrom (plan .identifiers) gs (i * plan .identifiers) }
 
--- ---- the call, whichever of the two
+-- ---- the call
 
-module _ (row : List ℕ) (next live : ℕ) (xs ts ls gs : List ℕ) (s i : ℕ) (g : Bool) (eg : g ≡ wellFormed boxLimits (machineFrom (planFor row) next live (cells xs ts ls gs))) where
+move-by : (m : Machine) (present : Bool) (s i : ℕ) → answerTo boxLimits m (moves present s i) ≡ moveBy m s present i (find s (m .live))
+unfolding answerTo moves
+move-by m true s i = refl
+move-by m false s i = refl
+
+module _ (row : List ℕ) (next live n : ℕ) (xs ts ls gs : List ℕ) (present : Bool) (s i : ℕ) (en : n ≡ live) (sized : length xs ≡ 128) (k : ℕ) (at-k : Located xs 0 live s k) where
   abbrev c : Cells
   c = cells xs ts ls gs
 
   abbrev m : Machine
   m = machineFrom (planFor row) next live c
 
-  pub call-bad : (call : Call) → not g ≡ true → Did (planFor row) next live (cells xs ts ls gs) (Refused 20) next live (cells xs ts ls gs) (run boxLimits (machineFrom (planFor row) next live (cells xs ts ls gs)) call)
-  call-bad call h = did-refused (planFor row) next live c (Refused 20) 20 _ refl (run-bad (planFor row) next live c g eg call h)
+  abbrev M : ℕ
+  M = planFor row .identifiers
 
-  module _ (h : not g ≡ false) (k : ℕ) (ek : k ≡ lowest live (λ i. eqb (getD xs i 0) s)) where
-    pub raise-gone : live ≤ k → Did (planFor row) next live (cells xs ts ls gs) (Refused 21) next live (cells xs ts ls gs) (run boxLimits (machineFrom (planFor row) next live (cells xs ts ls gs)) (raise s i))
-    unfolding answerTo raiseBy machineFrom
-    raise-gone l =
-        did-refused (planFor row) next live c (Refused 21) 21 _ refl
-        (run-formed (planFor row) next live c g eg (raise s i) h
-        ∙ ap (raiseBy m s i) (found-none (planFor row .identifiers) live c s k ek l) ∙ settled-refused _ _ _ 21 refl)
+  found : wellFormed boxLimits m ≡ true → k ≡ lowest live (λ i. eqb (getD xs i 0) s)
+  found well = placed-at (planFor row) next live c well s k sized at-k
 
-    pub lower-gone : live ≤ k → Did (planFor row) next live (cells xs ts ls gs) (Refused 21) next live (cells xs ts ls gs) (run boxLimits (machineFrom (planFor row) next live (cells xs ts ls gs)) (lower s i))
-    unfolding answerTo lowerBy machineFrom
-    lower-gone l =
-        did-refused (planFor row) next live c (Refused 21) 21 _ refl
-        (run-formed (planFor row) next live c g eg (lower s i) h
-        ∙ ap (lowerBy m s i) (found-none (planFor row .identifiers) live c s k ek l) ∙ settled-refused _ _ _ 21 refl)
+  pub move-gone : n ≤ k → Tried (planFor row) next live (cells xs ts ls gs) (moves present s i) (settles (Refused 21) next live) (cells xs ts ls gs)
+  unfolding moveBy machineFrom
+  move-gone l =
+      tried-same (planFor row) next live c (moves present s i) (Refused 21) _ refl (λ well.
+      sym (move-by m present s i ∙ ap (moveBy m s present i) (found-none M live c s k (found well) (omega (arith, en))) ∙ settled-refused _ _ _ 21 refl))
 
-    module _ (l : k < live) (t : Template) (looked : t ≡ templateAt row (getD ts k 0)) where
-      et : t ≡ at (planFor row) (getD ts k 0)
-      et = looked-at row next live c g eg h k l t looked
+  module _ (l : k < n) (w : ℕ) (ew : w ≡ identifiersIn row) (t : Template) (looked : t ≡ templateAt row (getD ts k 0)) (allowed : ℕ) (ea : allowed ≡ movable present t)
+      (q : ℕ) (eq : answerFor q ≡ refusalOf w (t .risk) allowed i) where
+    moved-by : wellFormed boxLimits m ≡ true → answerTo boxLimits m (moves present s i) ≡ settled m (answerFor q) (moved m s (labelWith present (getD ls k 0) i))
+    unfolding moveBy machineFrom moveAnswer refusalOf placed
+    moved-by well =
+        move-by m present s i
+        ∙ ap (moveBy m s present i) (found-some M live c s k (found well) (omega (arith, en)))
+        ∙ ap₂ (λ (M : ℕ) (t : Template). settled m (refusalOf M (t .risk) (movable present t) i) (moved m s (labelWith present (getD ls k 0) i)))
+        (formed-identifiers row next live c well ∙ sym ew) (sym (looked-at row next live c well k (omega (arith, en)) t looked))
+        ∙ ap (λ (a : ℕ). settled m (refusalOf w (t .risk) a i) (moved m s (labelWith present (getD ls k 0) i))) (sym ea)
+        ∙ ap (λ (a : Answer). settled m a (moved m s (labelWith present (getD ls k 0) i))) (sym eq)
 
-      raise-found : run boxLimits m (raise s i) ≡ settled m (refusalOf (getD row 1 0) (t .risk) (t .pos) i) (moved m s (plus (getD ls k 0) i))
-      unfolding answerTo raiseBy machineFrom moveAnswer refusalOf placed
-      raise-found =
-          run-formed (planFor row) next live c g eg (raise s i) h
-          ∙ ap (raiseBy m s i) (found-some (planFor row .identifiers) live c s k ek l)
-          ∙ ap₂ (λ (M : ℕ) (t : Template). settled m (refusalOf M (t .risk) (t .pos) i) (moved m s (plus (getD ls k 0) i))) (row-identifiers row next live c g eg h) (sym et)
+    pub move-refused : (q ≡ 0 → ⊥) → Tried (planFor row) next live (cells xs ts ls gs) (moves present s i) (settles (Refused q) next live) (cells xs ts ls gs)
+    move-refused z =
+        tried-same (planFor row) next live c (moves present s i) (Refused q) _ refl (λ well.
+        sym (moved-by well ∙ settled-refused _ _ _ q (numbered q z)))
 
-      lower-found : run boxLimits m (lower s i) ≡ settled m (refusalOf (getD row 1 0) (t .risk) (t .neg) i) (moved m s (without (getD ls k 0) (2 ^ i)))
-      unfolding answerTo lowerBy machineFrom moveAnswer refusalOf placed
-      lower-found =
-          run-formed (planFor row) next live c g eg (lower s i) h
-          ∙ ap (lowerBy m s i) (found-some (planFor row .identifiers) live c s k ek l)
-          ∙ ap₂ (λ (M : ℕ) (t : Template). settled m (refusalOf M (t .risk) (t .neg) i) (moved m s (without (getD ls k 0) (2 ^ i)))) (row-identifiers row next live c g eg h) (sym et)
+    pub move-done : q ≡ 0 → (label : ℕ) (ls′ : List ℕ) → label ≡ labelWith present (getD ls k 0) i → length ls ≡ 128 → ls′ ≡ set ls k label
+        → Tried (planFor row) next live (cells xs ts ls gs) (moves present s i) (settles Done next live) (cells xs ts ls′ gs)
+    unfolding moved machineFrom unlessDone
+    move-done z label ls′ el room e = record {
+      means = λ well.
+          let few = formed-live (planFor row) next live c well in
+          let serial = found-serial M live c s k (found well) (omega (arith, en)) in
+          sym (moved-by well ∙ settled-done _ _ _ (ap answerFor z)
+          ∙ ap (λ (ps : List Process). record { answer = Done; machine = record { plan = planFor row; next = next; live = ps } })
+          (ap₂ (λ (s label : ℕ). relabel s label (processesOf M live c)) (sym serial) (sym el)
+          ∙ relabelled-places (planFor row) next live xs ts ls gs well k (omega (arith, en)) label ls′ (omega (arith, room, en, few)) e));
+      same = Prim.tt;
+      others = unless-step (moves present s i) _ (record { next-stays = refl; live-stays = refl; serials-stay = refl; templates-stay = refl; tags-stay = refl });
+    }
 
-      module _ (allowed q : ℕ) (eq : answerFor q ≡ refusalOf (getD row 1 0) (t .risk) allowed i) where
-        call-refused : (o : Outcome) (new : Machine) → o ≡ settled m (refusalOf (getD row 1 0) (t .risk) allowed i) new → (q ≡ 0 → ⊥) → Did (planFor row) next live c (Refused q) next live c o
-        call-refused o new eo n = did-refused (planFor row) next live c (Refused q) q o refl (eo ∙ settled-refused m new _ q (sym eq ∙ numbered q n))
+-- The identifier is within what a mask has.
+pub below-width : (M : ℕ) (risk : Bool) (allowed i q : ℕ) → answerFor q ≡ refusalOf M risk allowed i → M ≤ 32 → q ≡ 0 → i < 32
+below-width M risk allowed i q eq few z = let b = not-refused M risk allowed i q eq z in omega (arith, few, b)
 
-        call-done : (o : Outcome) (label : ℕ) → o ≡ settled m (refusalOf (getD row 1 0) (t .risk) allowed i) (moved m s label) → q ≡ 0
-            → (ls′ : List ℕ) → length ls ≡ 128 → ls′ ≡ set ls k label → Did (planFor row) next live c Done next live (cells xs ts ls′ gs) o
-        unfolding moved machineFrom ifRefused
-        call-done o label eo z ls′ n el = record {
-          means =
-              (λ i. record { answer = Done; machine = record { plan = planFor row; next = next; live = places i } })
-              ∙ sym (eo ∙ settled-done m (moved m s label) _ (sym eq ∙ ap answerFor z));
-          same = Prim.tt;
-        }
-          where
-            few : live ≤ 128
-            few = few-live (planFor row) next live c g eg h
+-- ---- the label
 
-            places : processesOf (planFor row .identifiers) live (cells xs ts ls′ gs) ≡ relabel s label (processesOf (planFor row .identifiers) live c)
-            places =
-                sym (ap (λ (s : ℕ). relabel s label (processesOf (planFor row .identifiers) live c)) (sym (found-serial (planFor row .identifiers) live c s k ek l))
-                ∙ relabelled-places (planFor row) next live xs ts ls gs (formed (planFor row) next live c g eg h) k l label ls′ (let f = few in omega arith) el)
+pub label-raised : (present : Bool) (label i w : ℕ) → w ≡ 2 ^ i → present ≡ true → bitOr label w ≡ labelWith present label i
+unfolding labelWith plus
+label-raised present label i w e h = ap (bitOr label) e ∙ ap (λ (b : Bool). labelWith b label i) (sym h)
 
-      module _ (q : ℕ) where
-        pub raise-refused : answerFor q ≡ refusalOf (getD row 1 0) (t .risk) (t .pos) i → (q ≡ 0 → ⊥)
-            → Did (planFor row) next live (cells xs ts ls gs) (Refused q) next live (cells xs ts ls gs) (run boxLimits (machineFrom (planFor row) next live (cells xs ts ls gs)) (raise s i))
-        raise-refused eq n = call-refused (t .pos) q eq _ _ raise-found n
+pub label-lowered : (present : Bool) (label i w r : ℕ) → w ≡ 2 ^ i → r ≡ without label w → present ≡ false → r ≡ labelWith present label i
+unfolding labelWith
+label-lowered present label i w r e er h = er ∙ ap (without label) e ∙ ap (λ (b : Bool). labelWith b label i) (sym h)
 
-        pub lower-refused : answerFor q ≡ refusalOf (getD row 1 0) (t .risk) (t .neg) i → (q ≡ 0 → ⊥)
-            → Did (planFor row) next live (cells xs ts ls gs) (Refused q) next live (cells xs ts ls gs) (run boxLimits (machineFrom (planFor row) next live (cells xs ts ls gs)) (lower s i))
-        lower-refused eq n = call-refused (t .neg) q eq _ _ lower-found n
+pub movable-raised : (present : Bool) (t : Template) → present ≡ true → t .pos ≡ movable present t
+unfolding movable
+movable-raised present t e = ap (λ (b : Bool). movable b t) (sym e)
 
-        pub raise-done : answerFor q ≡ refusalOf (getD row 1 0) (t .risk) (t .pos) i → q ≡ 0
-            → (ls′ : List ℕ) → length ls ≡ 128 → ls′ ≡ set ls k (plus (getD ls k 0) i)
-            → Did (planFor row) next live (cells xs ts ls gs) Done next live (cells xs ts ls′ gs) (run boxLimits (machineFrom (planFor row) next live (cells xs ts ls gs)) (raise s i))
-        raise-done eq z ls′ n el = call-done (t .pos) q eq _ _ raise-found z ls′ n el
-
-        pub lower-done : answerFor q ≡ refusalOf (getD row 1 0) (t .risk) (t .neg) i → q ≡ 0
-            → (ls′ : List ℕ) → length ls ≡ 128 → ls′ ≡ set ls k (without (getD ls k 0) (2 ^ i))
-            → Did (planFor row) next live (cells xs ts ls gs) Done next live (cells xs ts ls′ gs) (run boxLimits (machineFrom (planFor row) next live (cells xs ts ls gs)) (lower s i))
-        lower-done eq z ls′ n el = call-done (t .neg) q eq _ _ lower-found z ls′ n el
-
--- The identifier and the place are within what the code reaches into.
-module _ (row : List ℕ) (next live : ℕ) (c : Cells) (g : Bool) (eg : g ≡ wellFormed boxLimits (machineFrom (planFor row) next live c)) (h : not g ≡ false) where
-  pub below-width : (risk : Bool) (allowed i q : ℕ) → answerFor q ≡ refusalOf (getD row 1 0) risk allowed i → q ≡ 0 → i < 32
-  below-width risk allowed i q eq z =
-      let a = few-words row next live c g eg h in
-      let b = not-refused (getD row 1 0) risk allowed i q eq z in
-      omega arith
-
-  pub place-within : (k : ℕ) → k < live → (l : List ℕ) → length l ≡ 128 → k < length l
-  place-within k b l e = let f = few-live (planFor row) next live c g eg h in omega arith
+pub movable-lowered : (present : Bool) (t : Template) → present ≡ false → t .neg ≡ movable present t
+unfolding movable
+movable-lowered present t e = ap (λ (b : Bool). movable b t) (sym e)

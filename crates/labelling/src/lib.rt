@@ -1,15 +1,15 @@
-// Document 01, Raise and lower, on a lent row and lent arrays. Only the labels change.
+// Document 01, Raise and lower, on a lent row and lent arrays, below refusal 20. They are one move; only the labels change.
 use machine::Answer;
+use plan::Template;
+use planrow::WORDS;
 ghost use mathlib.Core.Path.{_≡_};
-ghost use Prim.Native.Nat.{_<_, _≤_, _^_};
-ghost use lib.ListN.{getD, length, set};
-ghost use Rattle.mask.specs.Mask.{plus, without};
+ghost use mathlib.Core.List.{List};
+ghost use Prim.Native.Nat.{ℕ, _<_, _≤_, _^_};
 ghost use Rattle.planrow.specs.Lookup.{planFor};
-ghost use Rattle.machine.specs.Machine.{boxLimits, raise, lower, run};
-ghost use Rattle.machine.specs.State.{machineFrom};
+ghost use Rattle.machine.specs.Machine.{movable, labelWith};
 ghost use Rattle.population.specs.Arrays.{cells};
-ghost use Rattle.population.specs.Lent.{answerFor, Did};
-ghost use Rattle.labelling.specs.Labelling.{refusalOf};
+ghost use Rattle.population.specs.Lent.{settles, answerFor, Tried};
+ghost use Rattle.labelling.specs.Labelling.{moves, refusalOf};
 
 // The mask of identifier i alone.
 fn single(i: u32) -> u32
@@ -19,7 +19,14 @@ fn single(i: u32) -> u32
     1u32 << i
 }
 
-// The number of the first refusal from 27 to 29, and 0 where there is none: allowed is pos for a raise, neg for a lower.
+// "Pos (raise) or neg (lower)."
+fn movable_of(present: bool, t: Template) -> u32
+    ensures { λ r. ⌜ r ≡ movable present t ⌝ }
+{
+    if present { t.pos } else { t.neg }
+}
+
+// The number of the first refusal from 27 to 29, and 0 where there is none.
 fn refusal(m: u32, risk: bool, allowed: u32, i: u32) -> u8
     requires { ⌜ m ≤ 32 ⌝ }
     ensures { λ r. ⌜ answerFor r ≡ refusalOf m risk allowed i ⌝ }
@@ -36,88 +43,52 @@ fn refusal(m: u32, risk: bool, allowed: u32, i: u32) -> u8
     0
 }
 
-// "The label has [..] that identifier."
-fn raise_at(labels: &mut [u32], k: usize, i: u32)
-    requires { ⌜ (k < length (now labels)) × (i < 32) ⌝ }
-    ensures { λ _. ⌜ now (labels .exit) ≡ set (now (labels .entry)) k (plus (getD (now (labels .entry)) k 0) i) ⌝ }
+// "The label has, or lacks, that identifier."
+fn label_with(present: bool, label: u32, i: u32) -> u32
+    requires { ⌜ i < 32 ⌝ }
+    ensures { λ r. ⌜ r ≡ labelWith present label i ⌝ }
 {
-    labels[k] = labels[k] | single(i);
+    if present {
+        label | single(i)
+    } else {
+        mask::difference(label, single(i))
+    }
 }
 
-// "Or lacks" it.
-fn lower_at(labels: &mut [u32], k: usize, i: u32)
-    requires { ⌜ (k < length (now labels)) × (i < 32) ⌝ }
-    ensures { λ _. ⌜ now (labels .exit) ≡ set (now (labels .entry)) k (without (getD (now (labels .entry)) k 0) (2 ^ i)) ⌝ }
-{
-    labels[k] = mask::difference(labels[k], single(i));
-}
-
-// Document 01, Raise: 20; 21; 27 if the identifier is not below M; 28 if the template is not at risk; 29 if not in pos.
-pub fn raise<'a>(
-    row: &'a [u32; 514],
-    next: u32,
-    live: usize,
+// Document 01, Raise and lower: 21; 27 if the identifier is not below M; 28 if the template is not at risk; 29 if not in
+// pos, of a raise, or neg. A row of more than 32 identifiers means a bad state, and no mask has them.
+pub fn attempt<'a>(
+    row: &'a [u32; WORDS],
+    live: u32,
     serials: &'a [u32; 128],
-    templates: &'a [u8; 128],
+    templates: &'a [u32; 128],
     labels: &'a mut [u32; 128],
-    tags: &'a [u32; 4096],
     serial: u32,
     identifier: u32,
+    present: bool,
 ) -> Answer
     ensures { λ r.
         let plan = planFor (now (row .entry)) in
-        let c = cells (now (serials .entry)) (now (templates .entry)) (now (labels .entry)) (now (tags .entry)) in
-        let d = cells (now (serials .entry)) (now (templates .entry)) (now (labels .exit)) (now (tags .entry)) in
-        ⌜ Did plan next live c r next live d (run boxLimits (machineFrom plan next live c) (raise serial identifier)) ⌝ }
+        ⌜ ((next : ℕ) (tags : List ℕ) →
+        let c = cells (now (serials .entry)) (now (templates .entry)) (now (labels .entry)) tags in
+        let d = cells (now (serials .entry)) (now (templates .entry)) (now (labels .exit)) tags in
+        Tried plan next live c (moves present serial identifier) (settles r next live) d) ⌝ }
 {
-    if !population::is_well_formed(row, next, live, serials, templates, labels, tags) {
-        return Answer::Refused(population::BAD_STATE);
-    }
-    let k = arrays::place_of(serials, live, serial);
-    if live <= k {
+    let n = arrays::index(live);
+    let k = arrays::place_of(serials, 0, live, serial);
+    if n <= k {
         return Answer::Refused(population::NOT_LIVE);
     }
-    let m = row[1];
+    let m = planrow::identifier_count(row);
+    if 32 < m {
+        return Answer::Refused(population::BAD_STATE);
+    }
     let t = planrow::template_at(row, templates[k]);
-    let number = refusal(m, t.risk, t.pos, identifier);
+    let number = refusal(m, t.risk, movable_of(present, t), identifier);
     if number != 0 {
         return Answer::Refused(number);
     }
-    raise_at(labels, k, identifier);
-    Answer::Done
-}
-
-// Document 01, Lower: the same, 29 if not in neg.
-pub fn lower<'a>(
-    row: &'a [u32; 514],
-    next: u32,
-    live: usize,
-    serials: &'a [u32; 128],
-    templates: &'a [u8; 128],
-    labels: &'a mut [u32; 128],
-    tags: &'a [u32; 4096],
-    serial: u32,
-    identifier: u32,
-) -> Answer
-    ensures { λ r.
-        let plan = planFor (now (row .entry)) in
-        let c = cells (now (serials .entry)) (now (templates .entry)) (now (labels .entry)) (now (tags .entry)) in
-        let d = cells (now (serials .entry)) (now (templates .entry)) (now (labels .exit)) (now (tags .entry)) in
-        ⌜ Did plan next live c r next live d (run boxLimits (machineFrom plan next live c) (lower serial identifier)) ⌝ }
-{
-    if !population::is_well_formed(row, next, live, serials, templates, labels, tags) {
-        return Answer::Refused(population::BAD_STATE);
-    }
-    let k = arrays::place_of(serials, live, serial);
-    if live <= k {
-        return Answer::Refused(population::NOT_LIVE);
-    }
-    let m = row[1];
-    let t = planrow::template_at(row, templates[k]);
-    let number = refusal(m, t.risk, t.neg, identifier);
-    if number != 0 {
-        return Answer::Refused(number);
-    }
-    lower_at(labels, k, identifier);
+    let label = label_with(present, labels[k], identifier);
+    arrays::put(labels, k, label);
     Answer::Done
 }

@@ -115,6 +115,10 @@ pub every-acc : (n : ℕ) (p : ℕ → Bool) (b : Bool) → b ≡ every n p → 
 every-acc n p b e =
     ap (λ (a : Bool). a && p n) e ∙ sym (every-snoc n p) ∙ ap (λ (k : ℕ). every k p) (sym (add-one n))
 
+-- the same where a callee gives the test's answer,
+pub every-told : (n : ℕ) (p : ℕ → Bool) (b r : Bool) → b ≡ every n p → r ≡ p n → (b && r) ≡ every (n + 1) p
+every-told n p b r e h = ap (λ (t : Bool). b && t) h ∙ every-acc n p b e
+
 -- and its end.
 pub every-done : (n : ℕ) (p : ℕ → Bool) (i : ℕ) (b : Bool) → i ≤ n → n ≤ i → b ≡ every i p → b ≡ every n p
 every-done n p i b l g e = let q : i ≡ n = omega arith in e ∙ ap (λ (k : ℕ). every k p) q

@@ -1,7 +1,9 @@
 pub mod Tests
 pub mod Every
+pub mod All
 pub mod Lowest
 pub mod Tabulate
 pub mod Put
 pub mod Length
 pub mod Written
+pub mod Chosen

@@ -1,11 +1,10 @@
 -- Laws of `lowest`: it is at most the limit, the test passes there where it is less, and fails below it; and it is the
 -- only such number. A loop that looks for it keeps `any i p ≡ false`, with `any-none` and `any-more` for its turns.
 use Prim.Native.Nat.{ℕ, zero, suc, _≤_, _<_, suc-le-suc, zero-le}
-use mathlib.Core.Path.{_≡_, refl, sym, ap₂, _∙_, subst}
+use mathlib.Core.Path.{_≡_, refl, sym, ap₂, subst}
 use mathlib.Core.Bool.{Bool, true, false, cond}
 use mathlib.Core.Logic.{⊎-elim}
 use native.Mathlib.Nat.{not-suc-le-zero, le-of-suc-le-suc, zero-lt-suc, lt-trans, le-trans, eq-or-lt-of-le}
-use native.Mathlib.Omega.{arith}
 use lib.Dec.{ltb}
 use borrow.Author.Tests.{lt-ltb, ltb-true}
 use Rattle.lists.specs.Numbers.{lowest, any}
@@ -107,11 +106,3 @@ lowest-limit n k p h f =
 -- The test passes at i, and at nothing below.
 pub lowest-hit : (n : ℕ) (p : ℕ → Bool) (i : ℕ) → i < n → any i p ≡ false → p i ≡ true → i ≡ lowest n p
 lowest-hit n p i h f e = sym (lowest-is n p i h e (any-at i p f))
-
--- The loop ran to the end, and answers the limit
-pub lowest-end : (n : ℕ) (p : ℕ → Bool) (i : ℕ) → i ≤ n → n ≤ i → any i p ≡ false → n ≡ lowest n p
-lowest-end n p i l g f = sym (lowest-none n p (λ j h. any-at i p f j (le-trans h g)))
-
--- or its count.
-pub lowest-count : (n : ℕ) (p : ℕ → Bool) (i : ℕ) → i ≤ n → n ≤ i → any i p ≡ false → i ≡ lowest n p
-lowest-count n p i l g f = let q : i ≡ n = omega arith in q ∙ lowest-end n p i l g f

@@ -2,7 +2,7 @@
 -- together, and over both every call has the same answer and leaves the same processes. For a machine that is not
 -- refused so looks up only templates below N: those of its processes, and those of a step's children, which are
 -- successors.
-use Prim.Native.Nat.{ℕ, suc, _^_, _<_}
+use Prim.Native.Nat.{ℕ, suc, _<_}
 use mathlib.Core.Path.{_≡_, refl, sym, ap, ap₂, subst}
 use mathlib.Core.Bool.{Bool, true, false, cond, _&&_}
 use mathlib.Core.List.{List, [], _∷_, map}
@@ -13,14 +13,13 @@ use borrow.Author.Tests.{ltb-true}
 use Rattle.lists.specs.Numbers.{all}
 use Rattle.lists.proofs.Tests.{and-left, and-right}
 use Rattle.lists.proofs.Every.{every-ext}
-use Rattle.mask.specs.Mask.{plus, without}
 use Rattle.plan.specs.declared.{Template.{Template}, Plan.{Plan}}
 use Rattle.plan.specs.Plan.{at, creates}
 use Rattle.machine.specs.declared.Answer.{Answer, the-variants.{Done, Delivered, Held, Refused}}
 use Rattle.machine.specs.Machine.{Process, Machine, Limits, Call, step, send, raise, lower, Outcome, ifDone, settled}
 use Rattle.machine.specs.Machine.{templateFits, planFits, processFits, rising, populationFits, wellFormed, find, children}
 use Rattle.machine.specs.Machine.{mayBecome, child, spawn, stepAnswer, stepped, passes, moveAnswer, moved}
-use Rattle.machine.specs.Machine.{stepBy, sendBy, raiseBy, lowerBy, answerTo, run}
+use Rattle.machine.specs.Machine.{stepBy, sendBy, labelWith, moveBy, answerTo, run}
 use Rattle.machine.proofs.Templates.{process-template, successors-fit, children-fit}
 
 -- Two plans that differ at most past their first N templates.
@@ -145,13 +144,9 @@ module _ (p : Plan) (ts : List Template) where
       same-send from to (some x) none = same-refused 21
       same-send from to (some x) (some y) = settled-on q (onPlan p m) (onPlan p m) _
 
-      same-raise : (s i : ℕ) (x : Process) → x .template < p .count → Same m (λ m. raiseBy m s i (some x))
-      unfolding raiseBy moveAnswer moved
-      same-raise s i x h = rw (below (x .template) h) (settled-on q (onPlan p m) (moved (onPlan p m) s (plus (x .label) i)) _)
-
-      same-lower : (s i : ℕ) (x : Process) → x .template < p .count → Same m (λ m. lowerBy m s i (some x))
-      unfolding lowerBy moveAnswer moved
-      same-lower s i x h = rw (below (x .template) h) (settled-on q (onPlan p m) (moved (onPlan p m) s (without (x .label) (2 ^ i))) _)
+      same-move : (s : ℕ) (present : Bool) (i : ℕ) (x : Process) → x .template < p .count → Same m (λ m. moveBy m s present i (some x))
+      unfolding moveBy moveAnswer moved
+      same-move s present i x h = rw (below (x .template) h) (settled-on q (onPlan p m) (moved (onPlan p m) s (labelWith present (x .label) i)) _)
 
       module _ (e : wellFormed limits (onPlan p m) ≡ true) where
         -- Whoever is live stands at a template below N.
@@ -166,12 +161,12 @@ module _ (p : Plan) (ts : List Template) where
             (and-right (limits .serials (m .next)) _ (and-right (planFits p) _ e))))
 
         same-answer : (call : Call) → Same m (λ m. answerTo limits m call)
-        unfolding answerTo wellFormed stepBy raiseBy lowerBy
+        unfolding answerTo wellFormed stepBy moveBy
         same-answer (step s branch) =
             same-found (λ m. stepBy limits m s branch) (same-refused 21) (same-step (and-left (planFits p) _ e) s branch) s
         same-answer (send from to) = same-send from to (find from (m .live)) (find to (m .live))
-        same-answer (raise s i) = same-found (λ m. raiseBy m s i) (same-refused 21) (same-raise s i) s
-        same-answer (lower s i) = same-found (λ m. lowerBy m s i) (same-refused 21) (same-lower s i) s
+        same-answer (raise s i) = same-found (λ m. moveBy m s true i) (same-refused 21) (same-move s true i) s
+        same-answer (lower s i) = same-found (λ m. moveBy m s false i) (same-refused 21) (same-move s false i) s
 
       same-run : (call : Call) → Same m (λ m. run limits m call)
       unfolding run

@@ -1,4 +1,11 @@
+pub mod Outcomes
 pub mod Sending
-pub mod Places
 pub mod Templates
+pub mod Told
+pub mod Live
+pub mod Rising
+pub mod Ordered
+pub mod WellFormed
+pub mod Places
+pub mod Words
 pub mod Alike

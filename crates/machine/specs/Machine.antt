@@ -1,5 +1,5 @@
 -- The monitor's machine (document 01, "The monitor's machine").
--- Believed: everything here. Proved against it: crates delivery, stepping, labelling and monitor.
+-- Believed: everything here. Proved against it: crates planrow, population, delivery, stepping, labelling and monitor.
 use Prim.Native.Nat.{ℕ, suc, _+_, _-_, _^_}
 use mathlib.Core.{Bool.{Bool, true, false, not, cond, _&&_, _||_}, List.{List, [], _∷_, _++_, map}}
 use mathlib.Core.Option.{Option, none, some}
@@ -152,28 +152,41 @@ stepBy limits m s branch (some p) =
     let templates = children (at (m .plan) (p .template) .form) branch in
     settled m (stepAnswer limits m p branch templates) (stepped m s p templates)
 
--- "Delivered exactly when each identifier of the sender's label is in the receiver's and their tags for it are equal."
-unfoldable pub passes : Plan → Process → Process → Bool
-passes plan p q =
-    every (plan .identifiers) (λ i. not (has i (p .label)) || (has i (q .label) && eqb (tag p i) (tag q i)))
+-- "Each identifier of the sender's label is in the receiver's and their tags for it are equal", of M identifiers.
+unfoldable pub agree : ℕ → ℕ → List ℕ → ℕ → List ℕ → Bool
+agree M label sent receiver held =
+    every M (λ i. not (has i label) || (has i receiver && eqb (getD sent i 0) (getD held i 0)))
+
+-- "Delivered exactly when": the sender's side is the label and the tags that it wears, so that a message can carry them.
+unfoldable pub passes : Plan → ℕ → List ℕ → Process → Bool
+passes plan label tags q = agree (plan .identifiers) label tags (q .label) (q .tags)
 
 -- "21 if either is not live; 26 if equal"; "else held, which means lost. The state stays."
 unfoldable pub sendBy : Machine → ℕ → ℕ → Option Process → Option Process → Outcome
 sendBy m from to none q = settled m (Refused 21) m
 sendBy m from to (some p) none = settled m (Refused 21) m
 sendBy m from to (some p) (some q) =
-    settled m (refuseIf (eqb from to) 26 (cond (passes (m .plan) p q) Delivered Held)) m
+    settled m (refuseIf (eqb from to) 26 (cond (passes (m .plan) (p .label) (p .tags) q) Delivered Held)) m
 
--- "27 if the identifier is not below M; 28 if the template is not at risk; 29 if not in pos (raise) or neg (lower)":
--- allowed is that mask.
-unfoldable pub moveAnswer : Plan → Process → ℕ → ℕ → Answer
-moveAnswer plan p i allowed =
+-- Raise and lower are one move, whose direction says whether the identifier is to be present in the label after it.
+-- "Pos (raise) or neg (lower)".
+unfoldable pub movable : Bool → Template → ℕ
+movable true t = t .pos
+movable false t = t .neg
+
+-- "The label has, or lacks, that identifier."
+unfoldable pub labelWith : Bool → ℕ → ℕ → ℕ
+labelWith true label i = plus label i
+labelWith false label i = without label (2 ^ i)
+
+-- "27 if the identifier is not below M; 28 if the template is not at risk; 29 if not in pos (raise) or neg (lower)."
+unfoldable pub moveAnswer : Plan → Process → Bool → ℕ → Answer
+moveAnswer plan p present i =
     refuseIf (not (ltb i (plan .identifiers))) 27
     (refuseIf (not (at plan (p .template) .risk)) 28
-    (refuseIf (not (has i allowed)) 29
+    (refuseIf (not (has i (movable present (at plan (p .template))))) 29
     Done))
 
--- "Else the label has, or lacks, that identifier."
 abbrev pub relabelled : Process → ℕ → Process
 relabelled p label = record { serial = p .serial; template = p .template; label = label; tags = p .tags }
 
@@ -184,21 +197,15 @@ relabel s label (p ∷ rest) = cond (eqb (p .serial) s) (relabelled p label) p �
 unfoldable pub moved : Machine → ℕ → ℕ → Machine
 moved m s label = record { plan = m .plan; next = m .next; live = relabel s label (m .live) }
 
-unfoldable pub raiseBy : Machine → ℕ → ℕ → Option Process → Outcome
-raiseBy m s i none = settled m (Refused 21) m
-raiseBy m s i (some p) =
-    settled m (moveAnswer (m .plan) p i (at (m .plan) (p .template) .pos)) (moved m s (plus (p .label) i))
-
-unfoldable pub lowerBy : Machine → ℕ → ℕ → Option Process → Outcome
-lowerBy m s i none = settled m (Refused 21) m
-lowerBy m s i (some p) =
-    settled m (moveAnswer (m .plan) p i (at (m .plan) (p .template) .neg)) (moved m s (without (p .label) (2 ^ i)))
+unfoldable pub moveBy : Machine → ℕ → Bool → ℕ → Option Process → Outcome
+moveBy m s present i none = settled m (Refused 21) m
+moveBy m s present i (some p) = settled m (moveAnswer (m .plan) p present i) (moved m s (labelWith present (p .label) i))
 
 unfoldable pub answerTo : Limits → Machine → Call → Outcome
 answerTo limits m (step s branch) = stepBy limits m s branch (find s (m .live))
 answerTo limits m (send from to) = sendBy m from to (find from (m .live)) (find to (m .live))
-answerTo limits m (raise s i) = raiseBy m s i (find s (m .live))
-answerTo limits m (lower s i) = lowerBy m s i (find s (m .live))
+answerTo limits m (raise s i) = moveBy m s true i (find s (m .live))
+answerTo limits m (lower s i) = moveBy m s false i (find s (m .live))
 
 -- 20 stands before every other refusal of every call.
 unfoldable pub run : Limits → Machine → Call → Outcome

@@ -1,6 +1,6 @@
--- What a State means: the machine that its arrays stand for.
--- Believed: everything here. Proved against it: crate monitor.
-use Prim.Native.Nat.{ℕ, _+_, _*_}
+-- What a State means, the machine that its arrays stand for; and a call and an answer as words.
+-- Believed: everything here. Proved against it: crates monitor, playback and embed.
+use Prim.Native.Nat.{ℕ, zero, suc, _+_, _*_}
 use mathlib.Core.List.{List}
 use lib.ListN.{getD, replicate}
 use Rattle.lists.specs.Numbers.{tabulate}
@@ -9,7 +9,7 @@ use Rattle.text.specs.Reading.{readPlan, noPlan}
 use Rattle.rules.specs.{declared.Verdict.{Verdict, the-variants.{Accepted, Broken, Unread}}, Judge.{judge}}
 use Rattle.machine.specs.declared.{State.{State}, Answer.{Answer, the-variants.{Done, Delivered, Held, Refused}}}
 use Rattle.machine.specs.declared.Answered.{Answered}
-use Rattle.machine.specs.Machine.{Process, Machine, Outcome, start}
+use Rattle.machine.specs.Machine.{Process, Machine, Call, step, send, raise, lower, Outcome, start}
 
 -- What the four arrays hold.
 pub record Cells : Type 0 where
@@ -18,13 +18,17 @@ pub record Cells : Type 0 where
   pub labels : List ℕ
   pub tags : List ℕ
 
+-- So many words from a place on.
+unfoldable pub wordsFrom : ℕ → List ℕ → ℕ → List ℕ
+wordsFrom n xs from = tabulate n (λ i. getD xs (from + i) 0)
+
 -- The process at a place, of M identifiers: tag i stands at place * M + i.
 unfoldable pub placed : ℕ → Cells → ℕ → Process
 placed M cells place = record {
   serial = getD (cells .serials) place 0;
   template = getD (cells .templates) place 0;
   label = getD (cells .labels) place 0;
-  tags = tabulate M (λ i. getD (cells .tags) (place * M + i) 0);
+  tags = wordsFrom M (cells .tags) (place * M);
 }
 
 -- The processes at the first so many places: "unused places carry no meaning".
@@ -44,12 +48,13 @@ machineOf s = machineFrom (s .plan) (s .next) (s .live) (cellsOf s)
 unfoldable pub outcomeOf : Answered → Outcome
 outcomeOf r = record { answer = r .answer; machine = machineOf (r .state) }
 
--- P holds where the answer is a refusal: what an operation promises of the state that it then hands back.
-unfoldable pub ifRefused : Answer → Type 0 → Type 0
-ifRefused Done P = Prim.Unit
-ifRefused Delivered P = Prim.Unit
-ifRefused Held P = Prim.Unit
-ifRefused (Refused n) P = P
+-- P holds unless the answer is Done: what a call promises of the state that it then hands back. A refused call changes
+-- nothing, and of a send "the state stays".
+unfoldable pub unlessDone : Answer → Type 0 → Type 0
+unlessDone Done P = Prim.Unit
+unlessDone Delivered P = P
+unlessDone Held P = P
+unlessDone (Refused n) P = P
 
 -- The state that start hands back beside a verdict that is not accepted.
 abbrev pub blankState : State
@@ -65,3 +70,19 @@ startOn (Unread f) plan = machineOf blankState
 
 unfoldable pub started : List ℕ → List ℕ → Machine
 started planText policyText = startOn (judge planText policyText) (readPlan planText .plan)
+
+-- ---- a call and an answer as words
+
+-- A call as three words: its kind (0 step, 1 send, 2 raise, any other lower) and its two numbers.
+unfoldable pub callOf : ℕ → ℕ → ℕ → Call
+callOf zero x y = step x y
+callOf (suc zero) x y = send x y
+callOf (suc (suc zero)) x y = raise x y
+callOf (suc (suc (suc n))) x y = lower x y
+
+-- An answer as a number: 0 done, 1 delivered, 2 held, and a refusal's own number.
+unfoldable pub codeOf : Answer → ℕ
+codeOf Done = 0
+codeOf Delivered = 1
+codeOf Held = 2
+codeOf (Refused n) = n

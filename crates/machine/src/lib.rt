@@ -7,9 +7,9 @@ use rules::Verdict;
 pub struct State {
     pub plan: Plan,
     pub next: u32,
-    pub live: usize,
+    pub live: u32,
     pub serials: [u32; 128],
-    pub templates: [u8; 128],
+    pub templates: [u32; 128],
     pub labels: [u32; 128],
     pub tags: [u32; 4096],
 }

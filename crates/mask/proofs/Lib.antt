@@ -2,3 +2,4 @@ pub mod Digits
 pub mod Items
 pub mod Width
 pub mod Size
+pub mod Counted

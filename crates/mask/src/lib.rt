@@ -1,5 +1,6 @@
 // Sets of small numbers as masks: identifiers in 32 bits, templates in 64.
 ghost use mathlib.Core.Path.{_≡_};
+ghost use Prim.Native.Nat.{_+_, _^_, min};
 ghost use Rattle.lists.specs.Numbers.{lowest};
 ghost use Rattle.mask.specs.Mask.{has, without};
 ghost use Rattle.mask.specs.Sets.{within, plusBelow, size};
@@ -60,4 +61,21 @@ pub fn item_count(m: u64) -> u32
     ensures { λ r. ⌜ r ≡ size 64 m ⌝ }
 {
     u64::count_ones(m)
+}
+
+// How many masks there are over m identifiers; a mask has room for 32.
+pub fn mask_count(m: u32) -> u64
+    ensures { λ r. ⌜ r ≡ 2 ^ min m 32 ⌝ }
+{
+    if m < 32 {
+        return 1u64 << m;
+    }
+    4294967296
+}
+
+// The mask of all of m identifiers: the greatest.
+pub fn full_mask(m: u32) -> u32
+    ensures { λ r. ⌜ r + 1 ≡ 2 ^ min m 32 ⌝ }
+{
+    (mask_count(m) - 1) as u32
 }

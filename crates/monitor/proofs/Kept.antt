@@ -1,11 +1,12 @@
--- A refused call hands back the state that it got: what stands in its fields is literally what stood there.
+-- A call that is not done hands back the state that it got: what stands in its fields is literally what stood there.
 use Prim.Native.Nat.{ℕ}
-use mathlib.Core.Path.{_≡_}
-use Rattle.machine.specs.declared.Answer.{Answer}
-use Rattle.machine.specs.declared.Answer.the-variants.{Done, Delivered, Held, Refused}
-use Rattle.machine.specs.declared.State.{State}
-use Rattle.machine.specs.State.{Cells, cellsOf}
-use Rattle.machine.specs.State.{ifRefused}
+use mathlib.Core.Path.{_≡_, ap, subst}
+use Rattle.machine.specs.declared.{State.{State}, Answer.{Answer}, Answered.{Answered}}
+use Rattle.machine.specs.Machine.{send, Outcome, boxLimits, run}
+use Rattle.machine.specs.State.{Cells, cellsOf, machineOf, outcomeOf, unlessDone}
+use Rattle.machine.proofs.Outcomes.{unless-so}
+use Rattle.machine.proofs.Told.{send-stays}
+use Rattle.population.specs.declared.Settled.{Settled}
 use Rattle.population.specs.Lent.{Same}
 
 -- The state with other figures and cells.
@@ -20,13 +21,8 @@ rebuilt s next live d = record {
   tags = d .tags;
 }
 
-pub kept : (s : State) (a : Answer) (next live : ℕ) (d : Cells) → ifRefused a (Same (s .next) (s .live) (cellsOf s) next live d)
-    → ifRefused a (rebuilt s next live d ≡ s)
-unfolding ifRefused
-kept s Done next live d w = Prim.tt
-kept s Delivered next live d w = Prim.tt
-kept s Held next live d w = Prim.tt
-kept s (Refused n) next live d w = λ i.
+same-state : (s : State) (r : Settled) (d : Cells) → Same (s .next) (s .live) (cellsOf s) r d → rebuilt s (r .next) (r .live) d ≡ s
+same-state s r d w = λ i.
     record {
       plan = s .plan;
       next = w .same-next i;
@@ -36,3 +32,13 @@ kept s (Refused n) next live d w = λ i.
       labels = w .same-cells i .labels;
       tags = w .same-cells i .tags;
     }
+
+pub kept : (s : State) (r : Settled) (d : Cells) → unlessDone (r .answer) (Same (s .next) (s .live) (cellsOf s) r d)
+    → unlessDone (r .answer) (rebuilt s (r .next) (r .live) d ≡ s)
+kept s r d w = unless-so (r .answer) (Same (s .next) (s .live) (cellsOf s) r d) (rebuilt s (r .next) (r .live) d ≡ s) (same-state s r d) w
+
+-- A send hands back the state that it got, whatever it answers.
+pub sent-kept : (s : State) (r : Answered) (from to : ℕ) → outcomeOf r ≡ run boxLimits (machineOf s) (send from to) → unlessDone (r .answer) (r .state ≡ s) → r .state ≡ s
+unfolding outcomeOf
+sent-kept s r from to e w =
+    send-stays boxLimits (machineOf s) from to (r .state ≡ s) (subst (λ (a : Answer). unlessDone a (r .state ≡ s)) (ap (λ (o : Outcome). o .answer) e) w)

@@ -28,7 +28,7 @@ use Rattle.rules.specs.Broken.{accepted}
 use Rattle.verdict.proofs.Exact.{accepted-exactly}
 use Rattle.machine.specs.declared.State.{State}
 use Rattle.machine.specs.Machine.{start, root}
-use Rattle.machine.specs.State.{Cells, placed, processesOf, machineFrom, machineOf, blankState, startOn, started}
+use Rattle.machine.specs.State.{Cells, wordsFrom, placed, processesOf, machineFrom, machineOf, blankState, startOn, started}
 
 -- ---- the root's state
 
@@ -36,7 +36,7 @@ use Rattle.machine.specs.State.{Cells, placed, processesOf, machineFrom, machin
 module _ (plan : Plan) (t : Template) (e : t ≡ at plan 0) where
   one-process : (cells : Cells) → getD (cells .serials) 0 0 ≡ 0 → getD (cells .templates) 0 0 ≡ 0 → getD (cells .labels) 0 0 ≡ t .lab
       → ((i : ℕ) → getD (cells .tags) i 0 ≡ 0) → machineFrom plan 1 1 cells ≡ start plan
-  unfolding machineFrom processesOf placed tabulate start root
+  unfolding machineFrom processesOf placed wordsFrom tabulate start root
   one-process cells serial template label tags = λ k.
       record {
         plan = plan;

@@ -1,3 +1,7 @@
-pub mod Rows
+pub mod Reading
+pub mod Places
+pub mod Writing
 pub mod RoundTrip
 pub mod Lookup
+pub mod Fits
+pub mod Stands

@@ -3,43 +3,43 @@ use Prim.Native.Nat.{ℕ, _≤_, _<_}
 use mathlib.Core.Path.{_≡_, refl, sym, ap, _∙_}
 use mathlib.Core.Bool.{Bool, true, false, not, cond, _&&_}
 use mathlib.Core.List.{List}
-use mathlib.Core.Option.{Option, none, some}
+use mathlib.Core.Option.{none, some}
 use native.Mathlib.Omega.{arith}
 use lib.ListN.{getD}
 use lib.Dec.{ltb}
 use borrow.Author.Tests.{lt-ltb, le-ltb, not-true, not-false}
-use Rattle.lists.specs.Numbers.{tabulate}
 use Rattle.lists.proofs.Tabulate.{getD-tabulate}
 use Rattle.plan.specs.declared.Template.{Template}
 use Rattle.plan.specs.declared.Plan.{Plan}
 use Rattle.plan.specs.Plan.{blank, at}
-use Rattle.planrow.specs.Row.{templateIn, isTemplate, isPlan, planIn, planOfRow}
-use Rattle.planrow.specs.Lookup.{blankPlan, planFor, templateAt}
-use Rattle.planrow.proofs.Rows.{plan-count, plan-template}
+use Rattle.text.specs.Reading.{noPlan}
+use Rattle.planrow.specs.Row.{countIn, identifiersIn, wordAt, isTemplate, templateIn, isPlan, planIn, planOfRow}
+use Rattle.planrow.specs.Lookup.{planFor, templateAt}
+use Rattle.planrow.proofs.Reading.{plan-count, plan-template}
 
 -- ---- the ways of a look-up; b is the answer of `is_template`
 
 module _ (row : List ℕ) (X : ℕ) where
   pub look-past : 64 ≤ X → blank ≡ templateAt row X
   unfolding templateAt
-  look-past h = sym (ap (λ (b : Bool). cond (b && isTemplate row X) (templateIn row X) blank) (le-ltb X 64 h))
+  look-past h = sym (ap (λ (b : Bool). cond (b && isTemplate (wordAt row X)) (templateIn row X) blank) (le-ltb X 64 h))
 
-  inside : X < 64 → (b : Bool) → isTemplate row X ≡ b → templateAt row X ≡ cond b (templateIn row X) blank
+  inside : X < 64 → (b : Bool) → isTemplate (wordAt row X) ≡ b → templateAt row X ≡ cond b (templateIn row X) blank
   unfolding templateAt
   inside h b e = rw (lt-ltb X 64 h, e)
 
-  pub look-not : (b : Bool) → X < 64 → b ≡ isTemplate row X → not b ≡ true → blank ≡ templateAt row X
+  pub look-not : (b : Bool) → X < 64 → b ≡ isTemplate (wordAt row X) → not b ≡ true → blank ≡ templateAt row X
   look-not b h e n = sym (inside h false (sym e ∙ not-true b n))
 
-  pub look-means : (b : Bool) → b ≡ isTemplate row X → not b ≡ false → isTemplate row X ≡ true
+  pub look-means : (b : Bool) → b ≡ isTemplate (wordAt row X) → not b ≡ false → isTemplate (wordAt row X) ≡ true
   look-means b e n = sym e ∙ not-false b n
 
-  pub look-so : (b : Bool) (t : Template) → X < 64 → b ≡ isTemplate row X → not b ≡ false → t ≡ templateIn row X → t ≡ templateAt row X
+  pub look-so : (b : Bool) (t : Template) → X < 64 → b ≡ isTemplate (wordAt row X) → not b ≡ false → t ≡ templateIn row X → t ≡ templateAt row X
   look-so b t h e n q = q ∙ sym (inside h true (look-means b e n))
 
 -- ---- a row that means a plan
 
-pub stands-not : (row : List ℕ) → isPlan row ≡ false → planFor row ≡ blankPlan
+pub stands-not : (row : List ℕ) → isPlan row ≡ false → planFor row ≡ noPlan
 unfolding planFor
 stands-not row e = rw e
 
@@ -65,7 +65,7 @@ pub stands-for : (row : List ℕ) (plan : Plan) → planOfRow row ≡ some plan 
 unfolding planOfRow planFor
 stands-for row plan e = pick (isPlan row) e
   where
-    pick : (b : Bool) → cond b (some (planIn row)) none ≡ some plan → cond b (planIn row) blankPlan ≡ plan
+    pick : (b : Bool) → cond b (some (planIn row)) none ≡ some plan → cond b (planIn row) noPlan ≡ plan
     pick true q = cc
     pick false q = cc
 
@@ -74,21 +74,21 @@ module _ (row : List ℕ) (e : isPlan row ≡ true) where
   unfolding planFor
   stands-so = rw e
 
-  pub stands-count : planFor row .count ≡ getD row 0 0
+  pub stands-count : planFor row .count ≡ countIn row
   unfolding planIn
   stands-count = ap (λ (p : Plan). p .count) stands-so
 
-  pub stands-identifiers : planFor row .identifiers ≡ getD row 1 0
+  pub stands-identifiers : planFor row .identifiers ≡ identifiersIn row
   unfolding planIn
   stands-identifiers = ap (λ (p : Plan). p .identifiers) stands-so
 
-  pub stands-at : (X : ℕ) → X < getD row 0 0 → at (planFor row) X ≡ templateIn row X
+  pub stands-at : (X : ℕ) → X < countIn row → at (planFor row) X ≡ templateIn row X
   unfolding at planIn
   stands-at X h =
       ap (λ (p : Plan). getD (p .templates) X blank) stands-so
-      ∙ getD-tabulate 64 (λ X. cond (ltb X (getD row 0 0)) (templateIn row X) blank) X blank (let q = plan-count row e in omega arith)
-      ∙ ap (λ (b : Bool). cond b (templateIn row X) blank) (lt-ltb X (getD row 0 0) h)
+      ∙ getD-tabulate 64 (λ X. cond (ltb X (countIn row)) (templateIn row X) blank) X blank (let q = plan-count row e in omega arith)
+      ∙ ap (λ (b : Bool). cond b (templateIn row X) blank) (lt-ltb X (countIn row) h)
 
-  pub looked-up : (X : ℕ) → X < getD row 0 0 → templateAt row X ≡ at (planFor row) X
+  pub looked-up : (X : ℕ) → X < countIn row → templateAt row X ≡ at (planFor row) X
   looked-up X h =
       inside row X (let q = plan-count row e in omega arith) true (plan-template row e X h) ∙ sym (stands-at X h)

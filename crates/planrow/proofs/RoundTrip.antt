@@ -1,26 +1,29 @@
 -- The row of a plan, back again: its templates are those of the words, and a plan with blank places past N is the very
 -- plan that its row means.
-use Prim.Native.Nat.{ℕ, zero, suc, _+_, _*_, _/_, _%_, min, _≤_, _<_}
-use mathlib.Core.Path.{_≡_, refl, sym, ap, ap₂, _∙_, subst}
+use Prim.Native.Nat.{ℕ, min, _≤_, _<_}
+use mathlib.Core.Path.{_≡_, refl, sym, ap, _∙_}
 use mathlib.Core.Logic.{_⊎_, inl, inr}
 use mathlib.Core.Bool.{Bool, true, false, cond, _&&_}
-use mathlib.Core.List.{List, _∷_}
-use mathlib.Core.Option.{Option, none, some}
+use mathlib.Core.List.{List}
+use mathlib.Core.Option.{none, some}
 use native.Mathlib.Omega.{arith}
 use lib.ListN.{length, getD}
 use lib.Dec.{eqb, leb, ltb}
-use borrow.Author.Tests.{lt-ltb, le-ltb, le-leb, lt-leb}
-use Rattle.lists.specs.Numbers.{every, tabulate}
+use borrow.Author.Tests.{lt-ltb, le-ltb, le-leb}
+use Rattle.lists.specs.Numbers.{every}
 use Rattle.lists.proofs.Every.{every-of}
 use Rattle.lists.proofs.Tests.{lt-or-le, and-of}
-use Rattle.lists.proofs.Tabulate.{getD-tabulate, tabulate-ext, tabulate-getD}
+use Rattle.lists.proofs.Tabulate.{tabulate-ext, tabulate-getD}
 use Rattle.plan.specs.declared.Form.{Form}
 use Rattle.plan.specs.declared.Form.the-variants.{End, Go, Either, Both}
 use Rattle.plan.specs.declared.Template.{Template}
 use Rattle.plan.specs.declared.Plan.{Plan}
 use Rattle.plan.specs.Plan.{blank, at, successors, Among, Successor}
 use Rattle.plan.specs.Range.{InRange}
-use Rattle.planrow.specs.Row.{wordAt, formOf, templateIn, isTemplate, isPlan, planIn, planOfRow, formNumber, firstOf, secondOf, wordsOf, wordIn, rowOfPlan}
+use Rattle.planrow.specs.Row.{countIn, wordAt, formOf, templateOf, isTemplate, templateIn, isPlan, planIn, planOfRow}
+use Rattle.planrow.specs.Row.{formNumber, firstOf, secondOf, wordsOf, rowOfPlan}
+use Rattle.planrow.proofs.Reading.{template-ext, is-template-ext, row-long}
+use Rattle.planrow.proofs.Places.{row-identifiers, row-counted, row-count, row-word}
 
 -- ---- a form and its words
 
@@ -60,77 +63,55 @@ risk-back : (b : Bool) → eqb (cond b 1 0) 1 ≡ b
 risk-back true = refl
 risk-back false = refl
 
--- ---- the words of a plan's row
+-- ---- a template and its words
+
+abbrev reader : Template → ℕ → ℕ
+reader t k = getD (wordsOf t) k 0
+
+template-back : (t : Template) → templateOf (reader t) ≡ t
+unfolding templateOf wordsOf
+template-back t = λ i.
+    record {
+      form = form-back (t .form) i;
+      lab = t .lab;
+      pos = t .pos;
+      neg = t .neg;
+      creates = t .creates;
+      risk = risk-back (t .risk) i;
+    }
+
+template-low : (t : Template) → ((Y : ℕ) → Among Y (successors (t .form)) → Y < 64) → isTemplate (reader t) ≡ true
+unfolding isTemplate wordsOf
+template-low t near =
+    and-of _ _ (number-low (t .form))
+    (and-of _ _ (first-low (t .form) near) (and-of _ _ (second-low (t .form) near) (risk-low (t .risk))))
+
+-- ---- the row of a plan
 
 module _ (plan : Plan) (few : plan .count ≤ 64) where
   abbrev row : List ℕ
   row = rowOfPlan plan
 
-  pub row-count : getD (rowOfPlan plan) 0 0 ≡ plan .count
-  unfolding rowOfPlan
-  row-count = least (plan .count) few
-    where
-      least : (n : ℕ) → n ≤ 64 → min n 65 ≡ n
-      least n h = omega arith
-
-  pub row-identifiers : getD (rowOfPlan plan) 1 0 ≡ plan .identifiers
-  unfolding rowOfPlan
-  row-identifiers = refl
-
-  template-word : (X : ℕ) → X < plan .count → (k : ℕ) → k < 8 → wordAt row X k ≡ getD (wordsOf (at plan X)) k 0
-  unfolding wordAt rowOfPlan wordIn
-  template-word X h k l =
-      ap (λ (j : ℕ). getD row j 0) place
-      ∙ getD-tabulate 512 (wordIn plan) (8 * X + k) 0 (omega arith)
-      ∙ ap₂ (λ (x j : ℕ). cond (ltb x (plan .count)) (getD (wordsOf (at plan x)) j 0) 0) whole left
-      ∙ ap (λ (b : Bool). cond b (getD (wordsOf (at plan X)) k 0) 0) (lt-ltb X (plan .count) h)
-    where
-      place : 2 + 8 * X + k ≡ suc (suc (8 * X + k))
-      place = omega arith
-
-      whole : (8 * X + k) / 8 ≡ X
-      whole = omega arith
-
-      left : (8 * X + k) % 8 ≡ k
-      left = omega arith
-
   -- Each template of the plan is that of its words.
   pub row-template : (X : ℕ) → X < plan .count → templateIn (rowOfPlan plan) X ≡ at plan X
-  unfolding templateIn wordsOf
-  row-template X h = λ i.
-      record {
-        form = (ap₂ (λ (n Y : ℕ). formOf n Y (wordAt row X 2)) (word 0 (omega arith)) (word 1 (omega arith))
-            ∙ ap (formOf (formNumber (at plan X .form)) (firstOf (at plan X .form))) (word 2 (omega arith))
-            ∙ form-back (at plan X .form)) i;
-        lab = word 3 (omega arith) i;
-        pos = word 4 (omega arith) i;
-        neg = word 5 (omega arith) i;
-        creates = word 6 (omega arith) i;
-        risk = (ap (λ (n : ℕ). eqb n 1) (word 7 (omega arith)) ∙ risk-back (at plan X .risk)) i;
-      }
-    where
-      word : (k : ℕ) → k < 8 → wordAt row X k ≡ getD (wordsOf (at plan X)) k 0
-      word = template-word X h
+  unfolding templateIn
+  row-template X h = template-ext (wordAt row X) (reader (at plan X)) (λ k. row-word plan few X k h) ∙ template-back (at plan X)
 
   module _ (near : (X Y : ℕ) → X < plan .count → Successor plan X Y → Y < 64) where
-    is-template : (X : ℕ) → X < plan .count → isTemplate row X ≡ true
-    unfolding isTemplate wordsOf
+    is-template : (X : ℕ) → X < plan .count → isTemplate (wordAt row X) ≡ true
     is-template X h =
-        and-of _ _ (ap (λ (n : ℕ). leb n 3) (template-word X h 0 (omega arith)) ∙ number-low (at plan X .form))
-        (and-of _ _ (ap (λ (n : ℕ). leb n 255) (template-word X h 1 (omega arith)) ∙ first-low (at plan X .form) (λ Y. near X Y h))
-        (and-of _ _ (ap (λ (n : ℕ). leb n 255) (template-word X h 2 (omega arith)) ∙ second-low (at plan X .form) (λ Y. near X Y h))
-        (ap (λ (n : ℕ). leb n 1) (template-word X h 7 (omega arith)) ∙ risk-low (at plan X .risk))))
+        is-template-ext (wordAt row X) (reader (at plan X)) (λ k. row-word plan few X k h) ∙ template-low (at plan X) (λ Y. near X Y h)
 
     pub row-plan : isPlan (rowOfPlan plan) ≡ true
     unfolding isPlan
     row-plan =
-        ap (λ (n : ℕ). leb n 64 && every n (isTemplate row)) row-count
-        ∙ and-of _ _ (le-leb (plan .count) 64 few) (every-of (plan .count) (isTemplate row) is-template)
+        ap (λ (n : ℕ). leb n 64 && every n (λ X. isTemplate (wordAt row X))) (row-count plan few)
+        ∙ and-of _ _ (le-leb (plan .count) 64 few) (every-of (plan .count) (λ X. isTemplate (wordAt row X)) is-template)
 
   -- Where what is past N is blank too, the row means the very plan.
   module _ (unused : (X : ℕ) → plan .count ≤ X → at plan X ≡ blank) (sized : length (plan .templates) ≡ 64) where
-    same-place : (X : ℕ) → X < 64 → cond (ltb X (getD row 0 0)) (templateIn row X) blank ≡ at plan X
-    same-place X h = ap (λ (n : ℕ). cond (ltb X n) (templateIn row X) blank) row-count ∙ within (lt-or-le X (plan .count))
+    same-place : (X : ℕ) → X < 64 → cond (ltb X (countIn row)) (templateIn row X) blank ≡ at plan X
+    same-place X h = ap (λ (n : ℕ). cond (ltb X n) (templateIn row X) blank) (row-count plan few) ∙ within (lt-or-le X (plan .count))
       where
         within : (X < plan .count) ⊎ (plan .count ≤ X) → cond (ltb X (plan .count)) (templateIn row X) blank ≡ at plan X
         within (inl l) = ap (λ (b : Bool). cond b (templateIn row X) blank) (lt-ltb X (plan .count) l) ∙ row-template X l
@@ -140,15 +121,15 @@ module _ (plan : Plan) (few : plan .count ≤ 64) where
     unfolding planIn at
     same-plan = λ i.
         record {
-          count = row-count i;
-          identifiers = row-identifiers i;
+          count = row-count plan few i;
+          identifiers = row-identifiers plan i;
           templates = (tabulate-ext 64 _ (at plan) same-place ∙ tabulate-getD 64 (plan .templates) blank sized) i;
         }
 
 -- A plan of more templates has no row.
 pub row-over : (plan : Plan) → 64 < plan .count → isPlan (rowOfPlan plan) ≡ false
-unfolding isPlan rowOfPlan
-row-over plan h = ap (λ (b : Bool). b && every (min (plan .count) 65) (isTemplate (rowOfPlan plan))) (lt-leb (min (plan .count) 65) 64 (omega arith))
+row-over plan h =
+    sym (row-long (rowOfPlan plan) (min (plan .count) 65) (sym (row-counted plan)) (omega arith))
 
 module _ (plan : Plan) (few : plan .count ≤ 64) (near : (X Y : ℕ) → X < plan .count → Successor plan X Y → Y < 64)
     (unused : (X : ℕ) → plan .count ≤ X → at plan X ≡ blank) (sized : length (plan .templates) ≡ 64) where

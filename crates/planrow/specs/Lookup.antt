@@ -1,23 +1,19 @@
 -- A row as the monitor's core works with it: every row stands for some plan, and a template is looked up in its words.
 -- Not to be believed: the contracts of the exported functions do not name it. Laws beside this crate tie it to Row.
 use Prim.Native.Nat.{ℕ}
-use mathlib.Core.Bool.{Bool, cond, _&&_}
+use mathlib.Core.Bool.{cond, _&&_}
 use mathlib.Core.List.{List}
 use lib.Dec.{ltb}
-use lib.ListN.{replicate}
 use Rattle.plan.specs.declared.Template.{Template}
 use Rattle.plan.specs.declared.Plan.{Plan}
 use Rattle.plan.specs.Plan.{blank}
-use Rattle.planrow.specs.Row.{templateIn, isTemplate, isPlan, planIn}
+use Rattle.text.specs.Reading.{noPlan}
+use Rattle.planrow.specs.Row.{wordAt, isTemplate, templateIn, isPlan, planIn}
 
--- No templates: a plan for which the machine answers every call with 20.
-abbrev pub blankPlan : Plan
-blankPlan = record { count = 0; identifiers = 0; templates = replicate 64 blank }
-
--- A row that means no plan stands for the blank one.
+-- A row that means no plan stands for the one without templates, for which the machine answers every call with 20.
 unfoldable pub planFor : List ℕ → Plan
-planFor row = cond (isPlan row) (planIn row) blankPlan
+planFor row = cond (isPlan row) (planIn row) noPlan
 
 -- The template whose words stand at X, and the blank one where they are none.
 unfoldable pub templateAt : List ℕ → ℕ → Template
-templateAt row X = cond (ltb X 64 && isTemplate row X) (templateIn row X) blank
+templateAt row X = cond (ltb X 64 && isTemplate (wordAt row X)) (templateIn row X) blank

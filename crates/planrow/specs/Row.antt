@@ -1,25 +1,45 @@
--- A plan as a row of 514 words, as the embedded interface is lent it (include/monitor.h): N, M, then eight words for each
--- of 64 templates: form, first successor, second successor, lab, pos, neg, creates, risk.
+-- A plan as a row of words, as the embedded interface is lent it (include/monitor.h): a header of N and M, then for each
+-- of 64 templates its form, first successor, second successor, lab, pos, neg, creates, risk.
 -- Believed: everything here. Proved against it: crates planrow and embed.
 use Prim.Native.Nat.{ℕ, zero, suc, _+_, _*_, _/_, _%_, min}
-use mathlib.Core.Bool.{Bool, true, false, cond, _&&_}
-use mathlib.Core.List.{List, [], _∷_}
+use mathlib.Core.Bool.{Bool, cond, _&&_}
+use mathlib.Core.List.{List, [], _∷_, _++_}
 use mathlib.Core.Option.{Option, none, some}
 use lib.Dec.{eqb, leb, ltb}
 use lib.ListN.{getD}
 use Rattle.lists.specs.Numbers.{every, tabulate}
-use Rattle.plan.specs.declared.Form.{Form}
-use Rattle.plan.specs.declared.Form.the-variants.{End, Go, Either, Both}
-use Rattle.plan.specs.declared.Template.{Template}
-use Rattle.plan.specs.declared.Plan.{Plan}
+use Rattle.plan.specs.declared.{Form.{Form, the-variants.{End, Go, Either, Both}}, Template.{Template}, Plan.{Plan}}
 use Rattle.plan.specs.Plan.{blank, at}
-use Rattle.planrow.specs.declared.RowRead.{RowRead}
 
--- ---- what a row means
+-- ---- how a row lies
+
+-- The words of the header, those of a template, and all of them.
+abbrev pub header : ℕ
+header = 2
+
+abbrev pub width : ℕ
+width = 8
+
+abbrev pub words : ℕ
+words = header + width * 64
+
+-- Where the words of template X begin.
+abbrev pub begins : ℕ → ℕ
+begins X = header + width * X
+
+-- N
+unfoldable pub countIn : List ℕ → ℕ
+countIn row = getD row 0 0
+
+-- M
+unfoldable pub identifiersIn : List ℕ → ℕ
+identifiersIn row = getD row 1 0
 
 -- Word k of template X.
 unfoldable pub wordAt : List ℕ → ℕ → ℕ → ℕ
-wordAt row X k = getD row (2 + 8 * X + k) 0
+wordAt row X k = getD row (begins X + k) 0
+
+-- ---- what a row means
 
 -- 0 end, 1 go, 2 either, 3 both; a successor that the form lacks is not looked at.
 unfoldable pub formOf : ℕ → ℕ → ℕ → Form
@@ -28,30 +48,33 @@ formOf (suc zero) Y Z = Go Y
 formOf (suc (suc zero)) Y Z = Either Y Z
 formOf (suc (suc (suc n))) Y Z = Both Y Z
 
-unfoldable pub templateIn : List ℕ → ℕ → Template
-templateIn row X = record {
-  form = formOf (wordAt row X 0) (wordAt row X 1) (wordAt row X 2);
-  lab = wordAt row X 3;
-  pos = wordAt row X 4;
-  neg = wordAt row X 5;
-  creates = wordAt row X 6;
-  risk = eqb (wordAt row X 7) 1;
+-- The template whose word k is `word k`.
+unfoldable pub templateOf : (ℕ → ℕ) → Template
+templateOf word = record {
+  form = formOf (word 0) (word 1) (word 2);
+  lab = word 3;
+  pos = word 4;
+  neg = word 5;
+  creates = word 6;
+  risk = eqb (word 7) 1;
 }
 
--- The words of template X stand for one: a form from 0 to 3, successors that are bytes, a risk that is 0 or 1.
-unfoldable pub isTemplate : List ℕ → ℕ → Bool
-isTemplate row X =
-    leb (wordAt row X 0) 3 && (leb (wordAt row X 1) 255 && (leb (wordAt row X 2) 255 && leb (wordAt row X 7) 1))
+-- The words stand for one: a form from 0 to 3, successors that are bytes, a risk that is 0 or 1.
+unfoldable pub isTemplate : (ℕ → ℕ) → Bool
+isTemplate word = leb (word 0) 3 && (leb (word 1) 255 && (leb (word 2) 255 && leb (word 7) 1))
+
+unfoldable pub templateIn : List ℕ → ℕ → Template
+templateIn row X = templateOf (wordAt row X)
 
 -- At most 64 templates, each of them one; the words of the templates past N carry no meaning.
 unfoldable pub isPlan : List ℕ → Bool
-isPlan row = leb (getD row 0 0) 64 && every (getD row 0 0) (isTemplate row)
+isPlan row = leb (countIn row) 64 && every (countIn row) (λ X. isTemplate (wordAt row X))
 
 unfoldable pub planIn : List ℕ → Plan
 planIn row = record {
-  count = getD row 0 0;
-  identifiers = getD row 1 0;
-  templates = tabulate 64 (λ X. cond (ltb X (getD row 0 0)) (templateIn row X) blank);
+  count = countIn row;
+  identifiers = identifiersIn row;
+  templates = tabulate 64 (λ X. cond (ltb X (countIn row)) (templateIn row X) blank);
 }
 
 -- The plan that a row means, if it means one.
@@ -92,14 +115,11 @@ wordsOf t =
 
 -- Word j of its templates; past N each is 0.
 unfoldable pub wordIn : Plan → ℕ → ℕ
-wordIn plan j = cond (ltb (j / 8) (plan .count)) (getD (wordsOf (at plan (j / 8))) (j % 8) 0) 0
+wordIn plan j = cond (ltb (j / width) (plan .count)) (getD (wordsOf (at plan (j / width))) (j % width) 0) 0
 
--- The row of a plan; one of more than 64 templates has none, and 65 says so.
+-- A plan of more than 64 templates has no row, and 65 says so.
+unfoldable pub headerOf : Plan → List ℕ
+headerOf plan = min (plan .count) 65 ∷ plan .identifiers ∷ []
+
 unfoldable pub rowOfPlan : Plan → List ℕ
-rowOfPlan plan = min (plan .count) 65 ∷ plan .identifiers ∷ tabulate 512 (wordIn plan)
-
--- ---- the code's own answer
-
--- What a row was read as.
-unfoldable pub meant : RowRead → Option Plan
-meant r = cond (r .known) (some (r .plan)) none
+rowOfPlan plan = headerOf plan ++ tabulate (width * 64) (wordIn plan)

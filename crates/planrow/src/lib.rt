@@ -1,20 +1,24 @@
-// A plan as a row of words: read from one, and written to one.
+// A plan as a row of words: looked up in one, tested there, and written to one.
 use plan::Form;
 use plan::Plan;
 use plan::Template;
 ghost use mathlib.Core.Path.{_≡_};
-ghost use mathlib.Core.Bool.{true, cond};
-ghost use Prim.Native.Nat.{ℕ, _+_, _<_, _≤_, min};
-ghost use Rattle.lists.specs.Writes.{written};
+ghost use mathlib.Core.Bool.{true, _&&_, _||_};
+ghost use Prim.Native.Nat.{ℕ, _+_, _<_, _≤_, _^_, min};
+ghost use lib.Dec.{leb, ltb};
 ghost use lib.ListN.{getD, length};
-ghost use Rattle.planrow.specs.Row.{formOf, templateIn, isTemplate, isPlan, planIn, planOfRow, formNumber, firstOf, secondOf, wordsOf, rowOfPlan, meant};
-ghost use Rattle.planrow.specs.Lookup.{templateAt};
+ghost use Rattle.lists.specs.Writes.{written};
+ghost use Rattle.machine.specs.Machine.{templateFits, planFits};
+ghost use Rattle.planrow.specs.Row.{width, countIn, identifiersIn, wordAt, formOf, isTemplate, templateIn, isPlan};
+ghost use Rattle.planrow.specs.Row.{formNumber, firstOf, secondOf, wordsOf, rowOfPlan};
+ghost use Rattle.planrow.specs.Lookup.{planFor, templateAt};
 
-// What a row was read as: a plan, where it means one, and else the blank plan.
-pub struct RowRead {
-    pub known: bool,
-    pub plan: Plan,
-}
+// The words of the header, those of a template, and all of them.
+pub const HEADER: usize = 2;
+
+pub const WIDTH: usize = 8;
+
+pub const WORDS: usize = HEADER + WIDTH * 64;
 
 // A form's three words.
 struct FormWords {
@@ -23,33 +27,41 @@ struct FormWords {
     second: u8,
 }
 
-// Whether the words of template x stand for one.
-fn is_template(row: &[u32; 514], x: usize) -> bool
-    requires { ⌜ x < 64 ⌝ }
-    ensures { λ r. ⌜ r ≡ isTemplate (now (row .entry)) x ⌝ }
+// N
+pub fn template_count(row: &[u32; WORDS]) -> u32
+    ensures { λ r. ⌜ r ≡ countIn (now (row .entry)) ⌝ }
 {
-    let at = 2 + 8 * x;
+    row[0]
+}
+
+// M
+pub fn identifier_count(row: &[u32; WORDS]) -> u32
+    ensures { λ r. ⌜ r ≡ identifiersIn (now (row .entry)) ⌝ }
+{
+    row[1]
+}
+
+// Whether the words of template x stand for one.
+fn is_template(row: &[u32; WORDS], x: usize) -> bool
+    requires { ⌜ x < 64 ⌝ }
+    ensures { λ r. ⌜ r ≡ isTemplate (wordAt (now (row .entry)) x) ⌝ }
+{
+    let at = HEADER + WIDTH * x;
     (row[at] <= 3) & ((row[at + 1] <= 255) & ((row[at + 2] <= 255) & (row[at + 7] <= 1)))
 }
 
-fn wide(x: u32) -> usize
-    ensures { λ r. ⌜ r ≡ x ⌝ }
-{
-    x as usize
-}
-
 // Whether the row means a plan.
-pub fn is_plan(row: &[u32; 514]) -> bool
+pub fn is_plan(row: &[u32; WORDS]) -> bool
     ensures { λ r. ⌜ r ≡ isPlan (now (row .entry)) ⌝ }
 {
-    let n = wide(row[0]);
-    if 64 < n {
+    let count = template_count(row);
+    if 64 < count {
         return false;
     }
     let mut fits = true;
-    let mut i: usize = 0;
-    while i < n {
-        fits = fits & is_template(row, i);
+    let mut i: u32 = 0;
+    while i < count {
+        fits = fits & is_template(row, i as usize);
         i += 1;
     }
     fits
@@ -71,11 +83,11 @@ fn form_of(number: u32, y: u8, z: u8) -> Form
 }
 
 // The template that the words of template x stand for.
-fn template_in(row: &[u32; 514], x: usize) -> Template
-    requires { ⌜ (x < 64) × (isTemplate (now row) x ≡ true) ⌝ }
+fn template_in(row: &[u32; WORDS], x: usize) -> Template
+    requires { ⌜ (x < 64) × (isTemplate (wordAt (now row) x) ≡ true) ⌝ }
     ensures { λ r. ⌜ r ≡ templateIn (now (row .entry)) x ⌝ }
 {
-    let at = 2 + 8 * x;
+    let at = HEADER + WIDTH * x;
     let form = form_of(row[at], row[at + 1] as u8, row[at + 2] as u8);
     Template {
         form: form,
@@ -88,7 +100,7 @@ fn template_in(row: &[u32; 514], x: usize) -> Template
 }
 
 // The template whose words stand at x, and the blank one where they are none.
-pub fn template_at(row: &[u32; 514], x: u8) -> Template
+pub fn template_at(row: &[u32; WORDS], x: u32) -> Template
     ensures { λ r. ⌜ r ≡ templateAt (now (row .entry)) x ⌝ }
 {
     let at = x as usize;
@@ -101,49 +113,61 @@ pub fn template_at(row: &[u32; 514], x: u8) -> Template
     template_in(row, at)
 }
 
-// The plan that a row means; the templates past its number stay blank.
-fn plan_in(row: &[u32; 514]) -> Plan
-    requires { ⌜ isPlan (now row) ≡ true ⌝ }
-    ensures { λ r. ⌜ r ≡ planIn (now (row .entry)) ⌝ }
+// Document 01, 20: "a plan's successor not below N"; the word of one that the form lacks need only be a byte.
+fn successor_fits(y: u32, lacking: bool, n: u32) -> bool
+    requires { ⌜ n ≤ 64 ⌝ }
+    ensures { λ r. ⌜ r ≡ (leb y 255 && (lacking || ltb y n)) ⌝ }
 {
-    let blank = plan::blank_template();
-    let mut templates = [blank; 64];
-    let n = wide(row[0]);
-    let mut i: usize = 0;
-    while i < n {
-        let t = template_in(row, i);
-        templates[i] = t;
-        i += 1;
+    if lacking {
+        return y <= 255;
     }
-    Plan {
-        count: n,
-        identifiers: row[1],
-        templates: templates,
-    }
+    y < n
 }
 
-// The plan that a row means, if it means one.
-pub fn read_row(row: &[u32; 514]) -> RowRead
-    ensures { λ r. ⌜ meant r ≡ planOfRow (now (row .entry)) ⌝ }
+// Whether a mask is one over m identifiers.
+fn is_mask(mask: u32, m: u32) -> bool
+    requires { ⌜ m ≤ 32 ⌝ }
+    ensures { λ r. ⌜ r ≡ ltb mask (2 ^ m) ⌝ }
 {
-    if !is_plan(row) {
-        let blank = plan::blank_template();
-        let templates = [blank; 64];
-        let none = Plan {
-            count: 0,
-            identifiers: 0,
-            templates: templates,
-        };
-        return RowRead {
-            known: false,
-            plan: none,
-        };
+    (mask as u64) < (1u64 << m)
+}
+
+// Whether the words of template x stand for one that fits n templates and m identifiers.
+fn template_fits(row: &[u32; WORDS], x: usize, n: u32, m: u32) -> bool
+    requires { ⌜ (x < 64) × (n ≤ 64) × (m ≤ 32) ⌝ }
+    ensures { λ r. ⌜ r ≡ (isTemplate (wordAt (now (row .entry)) x) && templateFits n m (templateIn (now (row .entry)) x)) ⌝ }
+{
+    let at = HEADER + WIDTH * x;
+    let form = row[at];
+    let masks = row[at + 3] | (row[at + 4] | (row[at + 5] | row[at + 6]));
+    (form <= 3)
+        & (successor_fits(row[at + 1], form < 1, n)
+            & (successor_fits(row[at + 2], form < 2, n) & ((row[at + 7] <= 1) & is_mask(masks, m))))
+}
+
+// Document 01, 20: "a count [..] passed", and the plan's part of the rest. A row that means no plan has none that fits.
+// The loop does not leave early: every call runs it, and nearly every row fits.
+pub fn is_fitting(row: &[u32; WORDS]) -> bool
+    ensures { λ r. ⌜ r ≡ planFits (planFor (now (row .entry))) ⌝ }
+{
+    let n = template_count(row);
+    let m = identifier_count(row);
+    if n < 1 {
+        return false;
     }
-    let plan = plan_in(row);
-    RowRead {
-        known: true,
-        plan: plan,
+    if 64 < n {
+        return false;
     }
+    if 32 < m {
+        return false;
+    }
+    let mut fits = true;
+    let mut i: u32 = 0;
+    while i < n {
+        fits = fits & template_fits(row, i as usize, n, m);
+        i += 1;
+    }
+    fits
 }
 
 fn form_words(form: Form) -> FormWords
@@ -173,8 +197,8 @@ fn form_words(form: Form) -> FormWords
     }
 }
 
-// A template's eight words.
-fn words_of(t: Template) -> [u32; 8]
+// A template's words.
+fn words_of(t: Template) -> [u32; WIDTH]
     ensures { λ r. ⌜ r ≡ wordsOf t ⌝ }
 {
     let form = t.form;
@@ -198,32 +222,32 @@ fn count_word(n: usize) -> u32
     if n < 65 { n as u32 } else { 65 }
 }
 
-// Stores eight words from a place on.
-fn put_words(row: &mut [u32], at: usize, words: [u32; 8])
-    requires { ⌜ at + 8 ≤ length (now row) ⌝ }
-    ensures { λ _. ⌜ ((j : ℕ) → getD (now (row .exit)) j 0 ≡ written (now (row .entry)) at 8 (λ k. getD words k 0) j) ⌝ }
+// Stores a template's words from a place on.
+fn put_words(row: &mut [u32], at: usize, words: [u32; WIDTH])
+    requires { ⌜ at + width ≤ length (now row) ⌝ }
+    ensures { λ _. ⌜ ((j : ℕ) → getD (now (row .exit)) j 0 ≡ written (now (row .entry)) at width (λ k. getD words k 0) j) ⌝ }
 {
     let mut k: usize = 0;
-    while k < 8 {
+    while k < WIDTH {
         row[at + k] = words[k];
         k += 1;
     }
 }
 
 // The row of a plan.
-pub fn row_of(plan: Plan) -> [u32; 514]
+pub fn row_of(plan: Plan) -> [u32; WORDS]
     ensures { λ r. ⌜ (r ≡ rowOfPlan plan) × (length (plan .templates) ≡ 64) ⌝ }
 {
-    let mut row = [0u32; 514];
-    row[0] = count_word(plan.count);
-    row[1] = plan.identifiers;
+    let mut out = [0u32; WORDS];
+    out[0] = count_word(plan.count);
+    out[1] = plan.identifiers;
     let n = plan::capped(plan.count, 64) as usize;
     let mut i: usize = 0;
     while i < n {
         let t = plan.templates[i];
         let words = words_of(t);
-        put_words(&mut row, 2 + 8 * i, words);
+        put_words(&mut out, HEADER + WIDTH * i, words);
         i += 1;
     }
-    row
+    out
 }

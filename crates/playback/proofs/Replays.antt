@@ -20,7 +20,7 @@ use Rattle.machine.specs.State.{Cells, machineFrom, cellsOf, machineOf, blankSt
 use Rattle.monitor.proofs.Kept.{rebuilt}
 use Rattle.monitor.proofs.Starting.{is-accepted, not-accepted, accepted-row}
 use Rattle.promise.specs.Replay.{callsIn}
-use Rattle.promise.proofs.Box.{box-promise}
+use Rattle.promise.proofs.Promise.{box-promise}
 use Rattle.playback.specs.Playback.{Played, playable, Replays}
 
 none-playable : (v : Verdict) → v ≢ Accepted → (words places : ℕ) → 0 ≡ playable v words places

@@ -1,5 +1,5 @@
 -- Laws of a list of calls, as the code meets them.
-use Prim.Native.Nat.{ℕ, zero, suc, _+_, _-_, _*_, _≤_, _<_}
+use Prim.Native.Nat.{ℕ, zero, suc, _+_, _*_, _≤_, _<_}
 use mathlib.Core.Path.{_≡_, refl, sym, ap, _∙_}
 use mathlib.Core.List.{List}
 use native.Mathlib.Nat.{not-suc-le-zero, le-of-suc-le-suc}
@@ -8,61 +8,15 @@ use native.Mathlib.Omega.{arith}
 use lib.ListN.{length, getD, set, length-set}
 use lib.Seq.{getD-set-other}
 use Rattle.lists.specs.Numbers.{tabulate}
-use Rattle.plan.specs.declared.Plan.{Plan}
-use Rattle.machine.specs.declared.Answer.{Answer}
-use Rattle.machine.specs.declared.Answer.the-variants.{Done}
-use Rattle.machine.specs.Machine.{Machine, Outcome, boxLimits, Call, step, send, raise, lower, run}
-use Rattle.machine.specs.State.{Cells, machineFrom}
-use Rattle.population.specs.Lent.{outcomeFrom, Did}
 use Rattle.lists.proofs.Tabulate.{filled-more}
-use Rattle.promise.specs.Replay.{machineAfter, answers, callOf, callsIn, codeOf}
-use Rattle.playback.specs.Taking.{Took}
+use Rattle.plan.specs.declared.Plan.{Plan}
+use Rattle.machine.specs.declared.Answer.the-variants.{Done}
+use Rattle.machine.specs.Machine.{Machine, Outcome, boxLimits, Call, run}
+use Rattle.machine.specs.State.{Cells, machineFrom, callOf, codeOf}
+use Rattle.population.specs.declared.Settled.{Settled}
+use Rattle.population.specs.Lent.{outcomeFrom, Did}
+use Rattle.promise.specs.Replay.{machineAfter, answers, callsIn}
 use Rattle.playback.specs.Playback.{Played}
-
--- ---- one call
-
-pub call-lower : (o x y : ℕ) → (o ≡ 0 → ⊥) → (o ≡ 1 → ⊥) → (o ≡ 2 → ⊥) → callOf o x y ≡ lower x y
-unfolding callOf
-call-lower zero x y e f g = absurd (e refl)
-call-lower (suc zero) x y e f g = absurd (f refl)
-call-lower (suc (suc zero)) x y e f g = absurd (g refl)
-call-lower (suc (suc (suc n))) x y e f g = refl
-
-pub call-step : (o x y : ℕ) → o ≡ 0 → callOf o x y ≡ step x y
-unfolding callOf
-call-step o x y e = ap (λ (o : ℕ). callOf o x y) e
-
-pub call-send : (o x y : ℕ) → o ≡ 1 → callOf o x y ≡ send x y
-unfolding callOf
-call-send o x y e = ap (λ (o : ℕ). callOf o x y) e
-
-pub call-raise : (o x y : ℕ) → o ≡ 2 → callOf o x y ≡ raise x y
-unfolding callOf
-call-raise o x y e = ap (λ (o : ℕ). callOf o x y) e
-
-module _ (plan : Plan) (next live : ℕ) (c : Cells) (o x y : ℕ) (a : Answer) (q : ℕ) (eq : q ≡ codeOf a) where
-  took : (next′ live′ : ℕ) (d : Cells) (call : Call) → callOf o x y ≡ call
-      → outcomeFrom a plan next′ live′ d ≡ run boxLimits (machineFrom plan next live c) call
-      → Took (machineFrom plan next′ live′ d) q (run boxLimits (machineFrom plan next live c) (callOf o x y))
-  took next′ live′ d call e w =
-      let t = w ∙ ap (run boxLimits (machineFrom plan next live c)) (sym e) in
-      record { machine = ap (λ (t : Outcome). t .machine) t; code = eq ∙ ap (λ (t : Outcome). codeOf (t .answer)) t }
-
-  pub took-step : (next′ live′ : ℕ) (d : Cells) → o ≡ 0 → Did plan next live c a next′ live′ d (run boxLimits (machineFrom plan next live c) (step x y))
-      → Took (machineFrom plan next′ live′ d) q (run boxLimits (machineFrom plan next live c) (callOf o x y))
-  took-step next′ live′ d e w = took next′ live′ d (step x y) (call-step o x y e) (w .means)
-
-  pub took-send : o ≡ 1 → outcomeFrom a plan next live c ≡ run boxLimits (machineFrom plan next live c) (send x y)
-      → Took (machineFrom plan next live c) q (run boxLimits (machineFrom plan next live c) (callOf o x y))
-  took-send e w = took next live c (send x y) (call-send o x y e) w
-
-  pub took-raise : (d : Cells) → o ≡ 2 → Did plan next live c a next live d (run boxLimits (machineFrom plan next live c) (raise x y))
-      → Took (machineFrom plan next live d) q (run boxLimits (machineFrom plan next live c) (callOf o x y))
-  took-raise d e w = took next live d (raise x y) (call-raise o x y e) (w .means)
-
-  pub took-lower : (d : Cells) → (o ≡ 0 → ⊥) → (o ≡ 1 → ⊥) → (o ≡ 2 → ⊥) → Did plan next live c a next live d (run boxLimits (machineFrom plan next live c) (lower x y))
-      → Took (machineFrom plan next live d) q (run boxLimits (machineFrom plan next live c) (callOf o x y))
-  took-lower d e f g w = took next live d (lower x y) (call-lower o x y e f g) (w .means)
 
 -- ---- the loop
 
@@ -108,18 +62,27 @@ module _ (m : Machine) (f : ℕ → Call) (n : ℕ) where
   stands-none out = record { few = omega arith; room = refl; machine = refl; each = λ j h. absurd (not-suc-le-zero h); rest = λ j h. refl }
 
   module _ (i : ℕ) (old : List ℕ) (a : Machine) (out : List ℕ) (s : Stands m f n i old a out) where
-    pub stands-more : (a′ : Machine) (q : ℕ) → i < n → n ≤ length old → Took a′ q (run boxLimits a (f i)) → Stands m f n (i + 1) old a′ (set out i q)
+    -- o is what the call gave, and q its answer as a number.
+    pub stands-more : (o : Outcome) (q : ℕ) → i < n → n ≤ length old → o ≡ run boxLimits a (f i) → q ≡ codeOf (o .answer) → Stands m f n (i + 1) old (o .machine) (set out i q)
     unfolding reached
-    stands-more a′ q h l w =
+    stands-more o q h l w eq =
         let r = s .room in
         record {
           few = omega arith;
           room = simp length-set r;
-          machine = w .machine ∙ ap (λ (a : Machine). run boxLimits a (f i) .machine) (s .machine) ∙ ap (reached m f) (sym (add-one i));
+          machine = ap (λ (o : Outcome). o .machine) w ∙ ap (λ (a : Machine). run boxLimits a (f i) .machine) (s .machine) ∙ ap (reached m f) (sym (add-one i));
           each = filled-more (λ j. codeOf (run boxLimits (reached m f j) (f j) .answer)) out i q (omega arith)
-              (w .code ∙ ap (λ (a : Machine). codeOf (run boxLimits a (f i) .answer)) (s .machine)) (s .each);
+              (eq ∙ ap (λ (o : Outcome). codeOf (o .answer)) w ∙ ap (λ (a : Machine). codeOf (run boxLimits a (f i) .answer)) (s .machine)) (s .each);
           rest = λ j g. getD-set-other out i j q 0 (λ w. omega arith) ∙ s .rest j (omega arith);
         }
+
+-- As the code meets it: the call on lent arrays did what the machine does.
+pub stands-on : (m : Machine) (words : List ℕ) (n i : ℕ) (old out : List ℕ) (plan : Plan) (next live : ℕ) (c d : Cells) (r : Settled) (q : ℕ)
+    → Stands m (callAt words) n i old (machineFrom plan next live c) out → i < n → n ≤ length old
+    → Did plan next live c (callAt words i) r d → q ≡ codeOf (r .answer)
+    → Stands m (callAt words) n (i + 1) old (machineFrom plan (r .next) (r .live) d) (set out i q)
+stands-on m words n i old out plan next live c d r q s h l w eq =
+    stands-more m (callAt words) n i old (machineFrom plan next live c) out s (outcomeFrom plan r d) q h l (w .means) eq
 
 module _ (m : Machine) (words : List ℕ) (n i : ℕ) (old : List ℕ) (a : Machine) (out : List ℕ) where
   -- Past the last call.

@@ -1,2 +1,1 @@
 pub mod Playback
-pub mod Taking

@@ -6,8 +6,8 @@ use lib.ListN.{length, getD}
 use Rattle.text.specs.Reading.{readPlan, readPolicy}
 use Rattle.rules.specs.{declared.Verdict.{Verdict, the-variants.{Accepted, Broken, Unread}}, Judge.{judge}}
 use Rattle.machine.specs.declared.{Answer.the-variants.{Done}, State.{State}}
-use Rattle.machine.specs.{Machine.{Machine, boxLimits, start}, State.{machineOf, blankState}}
-use Rattle.promise.specs.{Promise.{Promised}, Replay.{machineAfter, answers, callsIn, codeOf}}
+use Rattle.machine.specs.{Machine.{Machine, boxLimits, start}, State.{machineOf, blankState, codeOf}}
+use Rattle.promise.specs.{Promise.{Promised}, Replay.{machineAfter, answers, callsIn}}
 
 -- The first n calls of the words, begun at the machine m, left the machine m′ and the row `after` where `before` stood:
 -- an answer for each call, and past them what stood there.

@@ -1,36 +1,20 @@
 // A list of calls, three words each: on a lent row and lent arrays, and from the two texts.
 use machine::Answer;
 use machine::State;
+use planrow::WORDS;
 use rules::Verdict;
 ghost use mathlib.Core.Path.{_≡_};
 ghost use Prim.Native.Nat.{_≤_, _*_, _/_, min};
 ghost use lib.ListN.{length};
 ghost use Rattle.planrow.specs.Lookup.{planFor};
-ghost use Rattle.machine.specs.Machine.{boxLimits, run};
-ghost use Rattle.machine.specs.State.{machineFrom};
+ghost use Rattle.machine.specs.State.{machineFrom, codeOf};
 ghost use Rattle.population.specs.Arrays.{cells};
-ghost use Rattle.promise.specs.Replay.{callOf, codeOf};
-ghost use Rattle.playback.specs.Taking.{Took};
 ghost use Rattle.playback.specs.Playback.{Played, Replays};
-
-// The first word of a call: its kind. Any other number is a lower.
-pub const STEP: u32 = 0;
-
-pub const SEND: u32 = 1;
-
-pub const RAISE: u32 = 2;
-
-// A call's answer as a number, and what it leaves beside the arrays.
-struct Taken {
-    code: u8,
-    next: u32,
-    live: usize,
-}
 
 // What a list of calls leaves beside the arrays, and how many calls were run.
 pub struct Place {
     pub next: u32,
-    pub live: usize,
+    pub live: u32,
     pub count: usize,
 }
 
@@ -46,58 +30,6 @@ pub fn code_of(answer: Answer) -> u8
     }
 }
 
-// One call.
-fn take_call<'a>(
-    row: &'a [u32; 514],
-    next: u32,
-    live: usize,
-    serials: &'a mut [u32; 128],
-    templates: &'a mut [u8; 128],
-    labels: &'a mut [u32; 128],
-    tags: &'a mut [u32; 4096],
-    kind: u32,
-    x: u32,
-    y: u32,
-) -> Taken
-    ensures { λ r.
-        let plan = planFor (now (row .entry)) in
-        let c = cells (now (serials .entry)) (now (templates .entry)) (now (labels .entry)) (now (tags .entry)) in
-        let d = cells (now (serials .exit)) (now (templates .exit)) (now (labels .exit)) (now (tags .exit)) in
-        ⌜ Took (machineFrom plan (r .next) (r .live) d) (r .code) (run boxLimits (machineFrom plan next live c) (callOf kind x y)) ⌝ }
-{
-    if kind == STEP {
-        let r = stepping::step(row, next, live, serials, templates, labels, tags, x, y);
-        let answer = r.answer;
-        return Taken {
-            code: code_of(answer),
-            next: r.next,
-            live: r.live,
-        };
-    }
-    if kind == SEND {
-        let answer = delivery::send(row, next, live, serials, templates, labels, tags, x, y);
-        return Taken {
-            code: code_of(answer),
-            next: next,
-            live: live,
-        };
-    }
-    if kind == RAISE {
-        let answer = labelling::raise(row, next, live, serials, templates, labels, tags, x, y);
-        return Taken {
-            code: code_of(answer),
-            next: next,
-            live: live,
-        };
-    }
-    let answer = labelling::lower(row, next, live, serials, templates, labels, tags, x, y);
-    Taken {
-        code: code_of(answer),
-        next: next,
-        live: live,
-    }
-}
-
 // How many calls so many words hold, and no more than there are places for their answers.
 pub fn call_count(words: usize, places: usize) -> usize
     ensures { λ r. ⌜ (r ≡ min (words / 3) places) × (r * 3 ≤ words) × (r ≤ places) ⌝ }
@@ -108,11 +40,11 @@ pub fn call_count(words: usize, places: usize) -> usize
 
 // The calls in order, as many as there are words and places for.
 pub fn run_calls<'a>(
-    row: &'a [u32; 514],
+    row: &'a [u32; WORDS],
     next: u32,
-    live: usize,
+    live: u32,
     serials: &'a mut [u32; 128],
-    templates: &'a mut [u8; 128],
+    templates: &'a mut [u32; 128],
     labels: &'a mut [u32; 128],
     tags: &'a mut [u32; 4096],
     calls: &'a [u32],
@@ -129,7 +61,7 @@ pub fn run_calls<'a>(
     let mut l = live;
     let mut i: usize = 0;
     while i < n {
-        let r = take_call(
+        let r = monitor::run_call(
             row,
             z,
             l,
@@ -143,7 +75,8 @@ pub fn run_calls<'a>(
         );
         z = r.next;
         l = r.live;
-        answers[i] = r.code;
+        let answer = r.answer;
+        answers[i] = code_of(answer);
         i += 1;
     }
     Place {

@@ -1,4 +1,3 @@
 pub mod Fits
 pub mod Lent
-pub mod RowFits
 pub mod ByRow

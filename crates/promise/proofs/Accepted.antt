@@ -3,18 +3,15 @@
 -- so no bound on templates is left.
 use Prim.Native.Nat.{ℕ, _≤_, _<_}
 use mathlib.Core.Path.{_≡_, refl, sym, ap, subst, _∙_}
-use mathlib.Core.Logic.{_⊎_, inl, inr, ⊎-elim}
-use mathlib.Core.Bool.{Bool, true, false, not, cond, _&&_, true≢false, false≢true}
-use mathlib.Core.List.{List, [], _∷_}
-use lib.Dec.{eqb}
+use mathlib.Core.Logic.{⊎-elim}
+use mathlib.Core.Bool.{Bool, true, false, not, _&&_, true≢false, false≢true}
+use mathlib.Core.List.{List}
 use borrow.Author.Tests.{not-true}
 use Rattle.lists.specs.Numbers.{all}
-use Rattle.lists.proofs.Tests.{lt-or-le, and-both, and-three, and-of}
+use Rattle.lists.proofs.Tests.{lt-or-le, and-three, and-of}
 use Rattle.lists.proofs.Every.{every-at, every-of}
 use Rattle.mask.specs.Mask.{has}
 use Rattle.mask.proofs.Items.{has-none}
-use Rattle.plan.specs.declared.Form.{Form}
-use Rattle.plan.specs.declared.Form.the-variants.{End, Go, Either, Both}
 use Rattle.plan.specs.declared.Template.{Template}
 use Rattle.plan.specs.declared.Plan.{Plan}
 use Rattle.plan.specs.declared.Assertion.{Assertion}
@@ -23,7 +20,8 @@ use Rattle.plan.specs.Plan.{at, successors, Among, Successor}
 use Rattle.plan.specs.Range.{InRange}
 use Rattle.rules.specs.Rules.{Kept, EveryRule, Serves}
 use Rattle.rules.specs.Judge.{offends12, offends13, offends16}
-use Rattle.machine.specs.Machine.{mayBecome, children}
+use Rattle.machine.specs.Machine.{mayBecome}
+use Rattle.machine.proofs.Templates.{among-all, all-among}
 
 -- ---- rules 12, 13 and 16
 
@@ -35,8 +33,7 @@ pub record Passes (plan : Plan) (label Y : ℕ) : Type 0 where
 
 -- The same of each child.
 abbrev pub AllPass : Plan → ℕ → List ℕ → Type 0
-AllPass plan label [] = Unit {0}
-AllPass plan label (Y ∷ rest) = Passes plan label Y × AllPass plan label rest
+AllPass plan label templates = (Y : ℕ) → Among Y templates → Passes plan label Y
 
 -- Rule 13 as a fact: what stands in the label and not in neg Y stands in lab Y.
 pub stays : (plan : Plan) (label Y : ℕ) → Passes plan label Y → (i : ℕ) → i < plan .identifiers
@@ -99,32 +96,11 @@ module _ (plan : Plan) (label : ℕ) where
 
   -- Where the test passes for all children, each may be,
   pub all-passes : (templates : List ℕ) → all (mayBecome plan label) templates ≡ true → AllPass plan label templates
-  unfolding all
-  all-passes [] e = tt
-  all-passes (Y ∷ rest) e =
-      let r = and-both (mayBecome plan label Y) (all (mayBecome plan label) rest) e in
-      (may-passes Y (r .0), all-passes rest (r .1))
+  all-passes templates e Y a = may-passes Y (among-all (mayBecome plan label) templates e Y a)
 
   -- and back.
   pub passes-all : (templates : List ℕ) → AllPass plan label templates → all (mayBecome plan label) templates ≡ true
-  unfolding all
-  passes-all [] a = refl
-  passes-all (Y ∷ rest) a = and-of (mayBecome plan label Y) (all (mayBecome plan label) rest) (passes-may Y (a .0)) (passes-all rest (a .1))
-
--- ---- children are successors
-
--- What is so of each successor is so of each child that a step makes.
-pub children-are : (P : ℕ → Type 0) (Q : List ℕ → Type 0) → Q [] → ((Y : ℕ) (rest : List ℕ) → P Y → Q rest → Q (Y ∷ rest))
-    → (form : Form) (branch : ℕ) → ((Y : ℕ) → Among Y (successors form) → P Y) → Q (children form branch)
-unfolding children successors
-children-are P Q none more End branch h = none
-children-are P Q none more (Go Y) branch h = more Y [] (h Y (inl refl)) none
-children-are P Q none more (Either Y Z) branch h = more (cond (eqb branch 0) Y Z) [] (h (cond (eqb branch 0) Y Z) (pick (eqb branch 0))) none
-  where
-    pick : (c : Bool) → (cond c Y Z ≡ Y) ⊎ ((cond c Y Z ≡ Z) ⊎ ⊥)
-    pick true = inl refl
-    pick false = inr (inl refl)
-children-are P Q none more (Both Y Z) branch h = more Y (Z ∷ []) (h Y (inl refl)) (more Z [] (h Z (inr (inl refl))) none)
+  passes-all templates h = all-among (mayBecome plan label) templates (λ Y a. passes-may Y (h Y a))
 
 -- ---- every edge, and every template outside Declass
 

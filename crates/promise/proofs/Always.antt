@@ -1,133 +1,128 @@
--- The family and the guarded knowledge are so at the start, and each call keeps them: so they are so after every list of
--- calls.
-use Prim.Native.Nat.{ℕ, zero}
+-- What is so after every list of calls from the start: the family, the guarded knowledge under any guard, a well formed
+-- machine, and with these the three parts of the promise.
+use Prim.Native.Nat.{ℕ, _<_}
 use native.Mathlib.Omega.{arith}
-use mathlib.Core.Path.{_≡_, refl, sym, subst, _∙_, fun-ext}
+use mathlib.Core.Path.{_≡_, sym, ap, subst, _∙_}
+use mathlib.Core.Logic.{_≢_}
 use mathlib.Core.List.{List, [], _∷_}
-use mathlib.Core.Option.{none, some}
-use mathlib.Core.Bool.{Bool, true, false, cond, false≢true}
-use lib.Dec.{eqb}
-use borrow.Author.Tests.{eqb-true}
-use Rattle.lists.specs.Numbers.{put}
-use Rattle.lists.proofs.Put.{put-all, put-all₂, put-two}
-use Rattle.lists.proofs.Tests.{or-left}
-use Rattle.lists.proofs.Tabulate.{getD-tabulate}
+use mathlib.Core.Bool.{true, false}
 use Rattle.mask.specs.Mask.{has}
-use Rattle.plan.specs.declared.Plan.{Plan}
-use Rattle.plan.specs.Plan.{at, creates}
-use Rattle.rules.specs.Judge.{wearable}
-use Rattle.machine.specs.Machine.{tag, Limits, Call, find, root}
-use Rattle.promise.specs.History.{Member, lineage, nobody, newborn, World, opening, worldAfter}
-use Rattle.promise.proofs.Family.{Fits, HasRoute, AreApart, NotAbove, IsFound, AllFits, Family}
-use Rattle.promise.proofs.Guard.{Guard}
-use Rattle.promise.proofs.Knowledge.{Knows, IsSafe, AllCarry, Guarded, guarded-hear}
-use Rattle.promise.proofs.Live.{population, find-last}
-use Rattle.promise.proofs.Calls.{Preserved, always}
-use Rattle.promise.proofs.Events.{no-some, family-step, guarded-step, family-send, family-move, guarded-move}
+use Rattle.plan.specs.declared.{Plan.{Plan}, Assertion.{Assertion}, Policy.{Policy}}
+use Rattle.plan.specs.Plan.{at}
+use Rattle.plan.specs.Range.{InRange}
+use Rattle.rules.specs.Rules.{EveryRule, Serves, Rules18-19}
+use Rattle.machine.specs.declared.Answer.the-variants.{Refused}
+use Rattle.machine.specs.Machine.{Limits, Call, step, send, wellFormed, answerTo, start}
+use Rattle.machine.proofs.Outcomes.{refused-number, run-either, run-answers}
+use Rattle.machine.proofs.Sending.{worn, delivered}
+use Rattle.machine.proofs.Live.{population}
+use Rattle.machine.proofs.WellFormed.{Sensible, stays-formed}
+use Rattle.promise.specs.History.{World, after, afterAll, opening, worldAfter}
+use Rattle.promise.specs.Promise.{Secret, Delivers, Unhindered}
+use Rattle.promise.proofs.Family.{Family}
+use Rattle.promise.proofs.Guard.{Guard, secrecy-guard}
+use Rattle.promise.proofs.Knowledge.{Guarded, guarded-hear}
+use Rattle.promise.proofs.Calls.{machineWith, Property, Preserved, always}
+use Rattle.promise.proofs.Events.{family-step, guarded-step, family-hear, family-move, guarded-move}
+use Rattle.promise.proofs.Opening.{family-opening, guarded-opening}
+use Rattle.promise.proofs.Secrecy.{secret}
+use Rattle.promise.proofs.Delivery.{passing}
+use Rattle.promise.proofs.Steps.{not-25}
 
--- ---- the start
-
--- What the history tells of serial 0.
-abbrev first : Member
-first = newborn 0 [] (λ y. eqb y 0)
-
-root-population : (plan : Plan) → population (root plan ∷ []) ≡ put (λ x. none) 0 (some (root plan))
-unfolding find root
-root-population plan = fun-ext (λ x. find-last x [] (root plan) refl)
-
-root-fits : (plan : Plan) → Fits plan 0 (root plan) first
-unfolding root tag wearable
-root-fits plan = record {
-  live = refl;
-  template = refl;
-  tags = λ i h. getD-tabulate (plan .identifiers) (λ j. 0) i 0 h ∙ zero (creates plan i 0);
-  within = λ i h e. or-left (has i (at plan 0 .lab)) _ e;
-  unmoved = λ e i h. refl;
-}
-  where
-    zero : (b : Bool) → _≡_ {A = ℕ} 0 (cond b 0 0)
-    zero true = refl
-    zero false = refl
-
-family-opening : (plan : Plan) → Family plan 1 (population (root plan ∷ [])) (opening plan .history)
-unfolding opening
-family-opening plan = rw (root-population plan) (record {
-  pos = omega arith;
-  route = put-all (HasRoute plan 1) (λ x. nobody) 0 first (λ b. (refl, (omega arith, tt))) (λ x h b. absurd (false≢true b));
-  apart = put-all₂ (AreApart plan) (λ x. nobody) 0 first
-      (λ b d h. absurd (h refl)) (λ y h b d. absurd (false≢true d))
-      (λ x h b d. absurd (false≢true b)) (λ x y h k b d. absurd (false≢true b));
-  childless = put-all₂ NotAbove (λ x. nobody) 0 first
-      (λ a b o. o) (λ y h a b o. o) (λ x h a b o. o) (λ x y h k a b o. o);
-  alive = put-two IsFound (λ x. none) (λ x. nobody) 0 (some (root plan)) first
-      (λ a. (refl, (root plan, refl))) (λ x h a. absurd (false≢true a));
-  fits = put-two (AllFits plan) (λ x. none) (λ x. nobody) 0 (some (root plan)) first
-      (λ p e. let q : root plan ≡ p = cc in rw (← q) (root-fits plan)) (λ x h p e. absurd (no-some p e));
-})
-
-guarded-opening : (plan : Plan) (guard : Guard plan) → Guarded plan guard (population (root plan ∷ [])) (opening plan .history)
-unfolding opening
-guarded-opening plan guard = rw (root-population plan) (record {
-  known = put-all₂ (Knows plan guard) (λ x. nobody) 0 first
-      (λ k. (
-        refl,
-        refl,
-        (λ o. o),
-        λ t. (
-          subst (λ (X : ℕ). has X (guard .declass) ≡ false) (sym t) (guard .clear),
-          guard .left 0 (root plan) first (lineage 0 first) (root-fits plan) (own t),
-        ),
-      ))
-      (λ y h k. absurd (h (eqb-true y 0 k))) (λ x h k. absurd (false≢true k)) (λ x y h j k. absurd (false≢true k));
-  safe = put-two (AllCarry plan guard (put (λ x. nobody) 0 first)) (λ x. none) (λ x. nobody) 0 (some (root plan)) first
-      (λ p e. put-all (IsSafe plan guard p (λ y. eqb y 0)) (λ x. nobody) 0 first
-      (λ k t. let q : root plan ≡ p = cc in rw (← q) (own t)) (λ y h k. absurd (h (eqb-true y 0 k))))
-      (λ x h p e. absurd (no-some p e));
-})
-  where
-    own : 0 ≡ guard .source → guard .Safe (root plan) (lineage 0 first)
-    own t = guard .own 0 (root plan) first (root-fits plan) refl t
-
--- ---- every list of calls
+-- ---- the family and the knowledge
 
 module _ (limits : Limits) (plan : Plan) where
   -- The family as a property of the machine and its history.
-  abbrev pub FamilyIn : World → Type 0
-  FamilyIn w = Family plan (w .machine .next) (population (w .machine .live)) (w .history)
+  abbrev pub IsFamily : Property
+  IsFamily next live H = Family plan next (population live) H
 
-  family-kept : (declass : ℕ) → Preserved limits plan declass (λ next live H. Family plan next (population live) H)
+  family-kept : (declass : ℕ) → Preserved limits plan declass IsFamily
   family-kept declass = record {
     by-step = λ next live H g s p e branch stepping. family-step plan next live H g s p e declass branch;
-    by-send = λ next live H g s r p q e f passing. family-send plan next live H g declass s r;
-    by-move = λ next live H g s p e i present label moving. family-move plan next live H g s p e i present label moving;
+    by-send = λ next live H g s r p q e f passing. family-hear plan next live H g declass r (H s .knows);
+    by-move = λ next live H g s p e present i moving. family-move plan next live H g s p e present i moving;
   }
 
-  -- After every list of calls the machine has its plan still, and the family is as it should be.
+  -- The machine has its plan still, and the family is as it should be.
   pub family-always : (declass : ℕ) (calls : List Call)
-      → let w = worldAfter limits plan declass calls in (w .machine .plan ≡ plan) × FamilyIn w
-  family-always declass calls =
-      always limits plan declass (λ next live H. Family plan next (population live) H) (family-kept declass) (family-opening plan) calls
+      → let w = worldAfter limits plan declass calls in (w .machine .plan ≡ plan) × IsFamily (w .machine .next) (w .machine .live) (w .history)
+  family-always declass calls = always limits plan declass IsFamily (family-kept declass) (family-opening plan) calls
 
-  guarded-kept : (guard : Guard plan)
-      → Preserved limits plan (guard .declass) (λ next live H. Family plan next (population live) H × Guarded plan guard (population live) H)
-  guarded-kept guard = record {
-    by-step = λ next live H g s p e branch stepping. (
-      family-step plan next live H (g .0) s p e (guard .declass) branch,
-      guarded-step plan next live H (g .0) s p e guard (g .1) branch (stepping .labels),
-    );
-    by-send = λ next live H g s r p q e f passing. (
-      family-send plan next live H (g .0) (guard .declass) s r,
-      guarded-hear plan guard (population live) H (g .1) next (g .0) s r p q e f passing,
-    );
-    by-move = λ next live H g s p e i present label moving. (
-      family-move plan next live H (g .0) s p e i present label moving,
-      guarded-move plan next live H (g .0) s p e i present label moving guard (g .1),
-    );
-  }
+  module _ (guard : Guard plan) where
+    -- The knowledge beside it.
+    abbrev IsGuarded : Property
+    IsGuarded next live H = IsFamily next live H × Guarded plan guard (population live) H
 
-  -- After every list of calls knowledge is guarded, whichever the guard.
-  pub guarded-always : (guard : Guard plan) (calls : List Call)
-      → let w = worldAfter limits plan (guard .declass) calls in Guarded plan guard (population (w .machine .live)) (w .history)
-  guarded-always guard calls =
-      always limits plan (guard .declass) (λ next live H. Family plan next (population live) H × Guarded plan guard (population live) H)
-      (guarded-kept guard) (family-opening plan, guarded-opening plan guard) calls .1 .1
+    guarded-kept : Preserved limits plan (guard .declass) IsGuarded
+    guarded-kept = let family = family-kept (guard .declass) in record {
+      by-step = λ next live H g s p e branch stepping. (
+        family .by-step next live H (g .0) s p e branch stepping,
+        guarded-step plan next live H (g .0) s p e guard (g .1) branch (stepping .labels),
+      );
+      by-send = λ next live H g s r p q e f passing. (
+        family .by-send next live H (g .0) s r p q e f passing,
+        guarded-hear plan guard (population live) H (g .1) next (g .0) r (H s .knows) (worn p) q f passing (g .1 .safe s p e),
+      );
+      by-move = λ next live H g s p e present i moving. (
+        family .by-move next live H (g .0) s p e present i moving,
+        guarded-move plan next live H (g .0) s p e present i moving guard (g .1),
+      );
+    }
+
+    -- Knowledge is guarded, whichever the guard.
+    pub guarded-always : (calls : List Call)
+        → let w = worldAfter limits plan (guard .declass) calls in Guarded plan guard (population (w .machine .live)) (w .history)
+    guarded-always calls =
+        always limits plan (guard .declass) IsGuarded guarded-kept (family-opening plan, guarded-opening plan guard) calls .1 .1
+
+-- ---- never 20
+
+formed-always : (limits : Limits) → Sensible limits → (declass : ℕ) (w : World) → wellFormed limits (w .machine) ≡ true
+    → (calls : List Call) → wellFormed limits (afterAll limits declass w calls .machine) ≡ true
+unfolding afterAll after
+formed-always limits fewer declass w e [] = e
+formed-always limits fewer declass w e (call ∷ rest) =
+    formed-always limits fewer declass (after limits declass w call) (stays-formed limits fewer (w .machine) call e) rest
+
+-- A machine that was started well formed is never in a bad state.
+pub never-bad : (limits : Limits) → Sensible limits → (plan : Plan) → wellFormed limits (start plan) ≡ true → (declass : ℕ) (calls : List Call)
+    → wellFormed limits (worldAfter limits plan declass calls .machine) ≡ true
+unfolding worldAfter opening
+never-bad limits fewer plan e declass calls = formed-always limits fewer declass (opening plan) e calls
+
+-- ---- the three parts of the promise
+
+-- No Sink process knows a different Source process that is not its kin.
+pub secret-always : (plan : Plan) (range : InRange plan) (a : Assertion) (t : ℕ) → t < plan .identifiers → Serves plan a t
+    → has (a .source) (a .declass) ≡ false → (limits : Limits) (calls : List Call) → Secret a (worldAfter limits plan (a .declass) calls)
+unfolding secrecy-guard
+secret-always plan range a t below serves clear limits calls =
+    let w = worldAfter limits plan (a .declass) calls in
+    secret plan range a t below serves clear (w .machine .next) (population (w .machine .live)) (w .history)
+    (family-always limits plan (a .declass) calls .1)
+    (guarded-always limits plan (secrecy-guard plan range a t below serves clear) calls)
+
+-- A send from a live Source process to its live kin at Sink is delivered, if neither has moved its own label.
+pub delivers-always : (plan : Plan) (a : Assertion)
+    → ((t : ℕ) → t < plan .identifiers → has t (at plan (a .source) .lab) ≡ true → Rules18-19 plan a t)
+    → (limits : Limits) → Sensible limits → wellFormed limits (start plan) ≡ true → (declass : ℕ) (calls : List Call)
+    → Delivers limits a (worldAfter limits plan declass calls)
+delivers-always plan a asked limits fewer started declass calls x y live-x live-y at-source at-sink differ kin moved-x moved-y =
+    let w = worldAfter limits plan declass calls in
+    let r = family-always limits plan declass calls in
+    let p = r .1 .alive x live-x .1 in
+    let q = r .1 .alive y live-y .1 in
+    let pass = passing plan a asked (w .machine .next) (population (w .machine .live)) (w .history) (r .1)
+    x y live-x live-y at-source at-sink differ kin moved-x moved-y (p .0) (q .0) (p .1) (q .1) in
+    ap (λ o. o .answer) (run-answers limits (w .machine) (send x y) (never-bad limits fewer plan started declass calls)
+    ∙ delivered limits (w .machine) x y (p .0) (q .0) (p .1) (q .1) differ (rw (r .0) pass))
+
+-- No step of a process that has not moved its own label is refused over labels.
+pub unhindered-always : (plan : Plan) → InRange plan → (policy : Policy) → EveryRule plan policy
+    → (limits : Limits) (declass : ℕ) (calls : List Call) → Unhindered limits (worldAfter limits plan declass calls)
+unhindered-always plan range policy rules limits declass calls s branch unmoved =
+    let w = worldAfter limits plan declass calls in
+    let r = family-always limits plan declass calls in
+    run-either limits (w .machine) (step s branch) (λ o. o .answer ≢ Refused 25) (λ e. let z = refused-number 20 25 e in omega arith) (λ _.
+    subst (λ (plan′ : Plan). answerTo limits (machineWith plan′ (w .machine .next) (w .machine .live)) (step s branch) .answer ≢ Refused 25) (sym (r .0))
+    (not-25 plan range policy rules (w .machine .next) (w .machine .live) (w .history) (r .1) s unmoved limits branch))

@@ -18,6 +18,7 @@ use Rattle.plan.specs.declared.Plan.{Plan}
 use Rattle.plan.specs.Plan.{at, Successor, creates}
 use Rattle.rules.specs.Judge.{wearable}
 use Rattle.machine.specs.Machine.{Process, tag, child}
+use Rattle.machine.proofs.Live.{Population}
 use Rattle.promise.specs.History.{Node, node, Member, History, lineage, newborn, touched}
 use Rattle.promise.proofs.Lineage.{maker, On, Older, Descent, older-later, on-older}
 use Rattle.promise.proofs.Separation.{Over, Separated, swap, over-on}
@@ -35,10 +36,6 @@ pub record Fits (plan : Plan) (x : ℕ) (p : Process) (m : Member) : Type 0 wher
   pub tags : Tagged plan p (lineage x m)
   pub within : (i : ℕ) → i < plan .identifiers → has i (p .label) ≡ true → wearable plan (m .template) i ≡ true
   pub unmoved : m .moved ≡ false → (i : ℕ) → i < plan .identifiers → has i (p .label) ≡ has i (at plan (m .template) .lab)
-
--- The live processes, each at its serial.
-abbrev pub Population : Type 0
-Population = ℕ → Option Process
 
 -- Of a member x: its lineage is a route from the root, with serials below next.
 abbrev pub HasRoute : Plan → ℕ → ℕ → Member → Type 0

@@ -16,14 +16,15 @@ use Rattle.plan.specs.declared.Plan.{Plan}
 use Rattle.plan.specs.Plan.{at, successors, Successor}
 use Rattle.route.specs.Route.{Branches}
 use Rattle.machine.specs.Machine.{Process, children}
+use Rattle.machine.proofs.Sending.{worn}
+use Rattle.machine.proofs.Live.{Population, arrival, arrivals}
 use Rattle.promise.specs.History.{node, Member, History, lineage, newborn, inherited, births}
 use Rattle.promise.proofs.Accepted.{Passes, AllPass}
 use Rattle.promise.proofs.Lineage.{On, Older}
 use Rattle.promise.proofs.Separation.{Separated, parted, under, Parting, Over, swap, parent-over, child-separated, siblings}
-use Rattle.promise.proofs.Family.{Tagged, Family, Population, over-above, family-birth, unborn}
+use Rattle.promise.proofs.Family.{Tagged, Family, over-above, family-birth, unborn}
 use Rattle.promise.proofs.Guard.{Guard}
-use Rattle.promise.proofs.Knowledge.{IsSafe, Carries, Guarded, guarded-birth}
-use Rattle.promise.proofs.Live.{arrival, arrivals}
+use Rattle.promise.proofs.Knowledge.{Carried, Carries, Guarded, guarded-birth}
 
 -- The process r has ended; p is what it was, with the tags that its children take from it.
 pub record Parent (plan : Plan) (H : History) (r : ℕ) (p : Process) : Type 0 where
@@ -126,7 +127,7 @@ module _ (plan : Plan) (next : ℕ) (P : Population) (H : History) (g : Family p
 
 module _ (plan : Plan) (next : ℕ) (P : Population) (H : History) (g : Family plan next P H)
     (r : ℕ) (p : Process) (parent : Parent plan H r p) (childless : Childless H r)
-    (guard : Guard plan) (f : Guarded plan guard P H) (carries : Carries plan guard H (H r .knows) p) where
+    (guard : Guard plan) (f : Guarded plan guard P H) (carries : Carries plan guard H (H r .knows) (worn p)) where
   guarded-one : (Y : ℕ) → Passes plan (p .label) Y → Guarded plan guard (arrival plan p next Y P) (birth (guard .declass) r next Y H)
   guarded-one Y passes =
       guarded-birth plan guard P H f next g r next Y p (parent .born) (parent .template) (omega arith) passes (parent .tags) carries
@@ -140,8 +141,8 @@ module _ (plan : Plan) (next : ℕ) (P : Population) (H : History) (g : Family p
       guarded-birth plan guard (arrival plan p next Y P) (birth (guard .declass) r next Y H) (guarded-one Y passes-Y)
       (suc next) (one plan next P H g r p parent childless (guard .declass) Y edge-Y)
       r (suc next) Z p (after .born) (after .template) (omega arith) passes-Z (after .tags)
-      (rw same (put-all (IsSafe plan guard p (H r .knows)) H next (newborn Y (lineage r (H r)) (inherited (guard .declass) next Y (H r .knows)))
-      (λ k t. absurd (unborn plan next P H g next (omega arith) (f .known r next k .1)))
+      (rw same (put-all (Carried plan guard (worn p) (H r .knows)) H next (newborn Y (lineage r (H r)) (inherited (guard .declass) next Y (H r .knows)))
+      (λ k. absurd (unborn plan next P H g next (omega arith) (f .known r next k .1)))
       (λ y h. carries y)))
 
   -- All children of a step that the labels allow.
@@ -150,6 +151,6 @@ module _ (plan : Plan) (next : ℕ) (P : Population) (H : History) (g : Family p
       AllPass plan (p .label) templates → Guarded plan guard (arrivals plan p next templates P) (births (guard .declass) r next templates H)
   unfolding births arrivals children successors
   births-guarded branch End e a = f
-  births-guarded branch (Go Y) e a = guarded-one Y (a .0)
-  births-guarded branch (Either Y Z) e a = guarded-one (cond (eqb branch 0) Y Z) (a .0)
-  births-guarded branch (Both Y Z) e a = guarded-two Y Z (rw e (inl refl)) (a .0) (a .1 .0)
+  births-guarded branch (Go Y) e a = guarded-one Y (a Y (inl refl))
+  births-guarded branch (Either Y Z) e a = guarded-one (cond (eqb branch 0) Y Z) (a (cond (eqb branch 0) Y Z) (inl refl))
+  births-guarded branch (Both Y Z) e a = guarded-two Y Z (rw e (inl refl)) (a Y (inl refl)) (a Z (inr (inl refl)))

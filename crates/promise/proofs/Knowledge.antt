@@ -15,11 +15,13 @@ use Rattle.lists.proofs.Put.{put-all, put-all₂, put-two, put-id}
 use Rattle.mask.specs.Mask.{has}
 use Rattle.plan.specs.declared.Plan.{Plan}
 use Rattle.machine.specs.Machine.{Process, child}
+use Rattle.machine.proofs.Sending.{Worn, worn, Passing}
+use Rattle.machine.proofs.Live.{Population}
 use Rattle.promise.specs.History.{Node, Member, History, lineage, newborn, touched, inherited, learnt, hear}
 use Rattle.promise.proofs.Accepted.{Passes}
 use Rattle.promise.proofs.Lineage.{On, on-older}
-use Rattle.promise.proofs.Family.{Tagged, Fits, Family, Population, child-fits, unborn}
-use Rattle.promise.proofs.Guard.{Guard, Passing}
+use Rattle.promise.proofs.Family.{Tagged, Fits, Family, child-fits, unborn}
+use Rattle.promise.proofs.Guard.{Guard}
 
 -- ---- where knowledge comes from
 
@@ -47,8 +49,8 @@ learnt-cases declass X own sender y e = or-outside (own y) (has X declass) (send
 
 module _ (plan : Plan) (guard : Guard plan) where
   -- A process at X, outside Declass, may take over that another knows y.
-  abbrev Told : ℕ → (ℕ → Bool) → ℕ → Type 0
-  Told X knows y = (has X (guard .declass) ≡ false) × (knows y ≡ true)
+  abbrev TakesOver : ℕ → (ℕ → Bool) → ℕ → Type 0
+  TakesOver X knows y = (has X (guard .declass) ≡ false) × (knows y ≡ true)
 
   -- x knows y: both were made, x is not above y, and if y is a Source process, x has kept what the guard asks.
   abbrev pub Known : ℕ → Member → ℕ → Member → Type 0
@@ -61,17 +63,17 @@ module _ (plan : Plan) (guard : Guard plan) where
   abbrev pub Knows : ℕ → Member → ℕ → Member → Type 0
   Knows x mx y my = mx .knows y ≡ true → Known x mx y my
 
-  -- The process p, with that knowledge, is safe for the member y,
-  abbrev pub IsSafe : Process → (ℕ → Bool) → ℕ → Member → Type 0
-  IsSafe p knows y my = knows y ≡ true → my .template ≡ guard .source → guard .Safe p (lineage y my)
+  -- With that knowledge v carries the member y: where y is known, y was made, and if it is a Source process, v is safe for it;
+  abbrev pub Carried : Worn → (ℕ → Bool) → ℕ → Member → Type 0
+  Carried v knows y my = knows y ≡ true → (my .born ≡ true) × (my .template ≡ guard .source → guard .Safe v (lineage y my))
 
-  -- and for everybody.
-  abbrev pub Carries : History → (ℕ → Bool) → Process → Type 0
-  Carries H knows p = (y : ℕ) → IsSafe p knows y (H y)
+  -- and so for everybody.
+  abbrev pub Carries : History → (ℕ → Bool) → Worn → Type 0
+  Carries H knows v = (y : ℕ) → Carried v knows y (H y)
 
   -- What is found at a serial carries safely what its member knows.
   abbrev pub AllCarry : History → ℕ → Option Process → Member → Type 0
-  AllCarry H x v m = (p : Process) → v ≡ some p → Carries H (m .knows) p
+  AllCarry H x v m = (p : Process) → v ≡ some p → Carries H (m .knows) (worn p)
 
   -- Everybody's knowledge is so.
   pub record Guarded (P : Population) (H : History) : Type 0 where
@@ -82,7 +84,7 @@ module _ (plan : Plan) (guard : Guard plan) where
     -- A member changes its marks or its knowledge, and its process with it.
     pub guarded-touch : (s : ℕ) (live moved : Bool) (knows : ℕ → Bool) (v : Option Process)
         → ((y : ℕ) → knows y ≡ true → Known s (H s) y (H y))
-        → ((p : Process) → v ≡ some p → Carries H knows p)
+        → ((p : Process) → v ≡ some p → Carries H knows (worn p))
         → Guarded (put P s v) (put H s (touched (H s) live moved knows))
     guarded-touch s live moved knows v k safe =
         let m : Member = touched (H s) live moved knows in
@@ -90,53 +92,58 @@ module _ (plan : Plan) (guard : Guard plan) where
           known = put-all₂ Knows H s m
               (λ e. k s e) (λ y h e. k y e) (λ x h e. f .known x s e) (λ x y h h′ e. f .known x y e);
           safe = put-two (AllCarry (put H s m)) P H s v m
-              (λ p e. put-all (IsSafe p knows) H s m (safe p e s) (λ y h. safe p e y))
-              (λ x h p e. put-all (IsSafe p (H x .knows)) H s m (f .safe x p e s) (λ y h. f .safe x p e y));
+              (λ p e. put-all (Carried (worn p) knows) H s m (safe p e s) (λ y h. safe p e y))
+              (λ x h p e. put-all (Carried (worn p) (H x .knows)) H s m (f .safe x p e s) (λ y h. f .safe x p e y));
         }
 
     module _ (next : ℕ) (g : Family plan next P H) where
-      -- The live process q with serial r learns what the live process p with serial s knows.
-      pub guarded-hear : (s r : ℕ) (p q : Process) → P s ≡ some p → P r ≡ some q → Passing plan p q
-          → Guarded P (hear (guard .declass) s r H)
-      guarded-hear s r p q es er passing = subst (λ (P′ : Population). Guarded P′ (hear (guard .declass) s r H)) (put-id P r)
-          (guarded-touch r (H r .live) (H r .moved) (learnt (guard .declass) (H r .template) (H r .knows) (H s .knows)) (P r)
-          (λ y k. known y (learnt-cases (guard .declass) (H r .template) (H r .knows) (H s .knows) y k))
-          (λ p′ e y k t. let z : q ≡ p′ = cc in rw (← z) (safe y t (learnt-cases (guard .declass) (H r .template) (H r .knows) (H s .knows) y k))))
+      -- The live process q with serial r learns what one that wears v carries.
+      pub guarded-hear : (r : ℕ) (knows : ℕ → Bool) (v : Worn) (q : Process) → P r ≡ some q → Passing plan v (worn q) → Carries H knows v
+          → Guarded P (hear (guard .declass) r knows H)
+      guarded-hear r knows v q er passing carries = subst (λ (P′ : Population). Guarded P′ (hear (guard .declass) r knows H)) (put-id P r)
+          (guarded-touch r (H r .live) (H r .moved) (learnt (guard .declass) (H r .template) (H r .knows) knows) (P r)
+          (λ y k. known y (cases y k))
+          (λ p′ e y k. let z : q ≡ p′ = cc in (known y (cases y k) .1, λ t. rw (← z) (safe y t (cases y k)))))
         where
+          cases : (y : ℕ) → learnt (guard .declass) (H r .template) (H r .knows) knows y ≡ true
+              → (H r .knows y ≡ true) ⊎ TakesOver (H r .template) knows y
+          cases = learnt-cases (guard .declass) (H r .template) (H r .knows) knows
+
           fit : Fits plan r q (H r)
           fit = g .fits r q er
 
-          known : (y : ℕ) → (H r .knows y ≡ true) ⊎ Told (H r .template) (H s .knows) y → Known r (H r) y (H y)
+          safe : (y : ℕ) → H y .template ≡ guard .source → (H r .knows y ≡ true) ⊎ TakesOver (H r .template) knows y
+              → guard .Safe (worn q) (lineage y (H y))
+          safe y t (inl k) = f .safe r q er y k .1 t
+          safe y t (inr k) = guard .deliver v (worn q) (lineage y (H y)) passing (carries y (k .1) .1 t)
+
+          known : (y : ℕ) → (H r .knows y ≡ true) ⊎ TakesOver (H r .template) knows y → Known r (H r) y (H y)
           known y (inl k) = f .known r y k
           known y (inr k) =
-              let old = f .known s y (k .1) in (
+              let born = carries y (k .1) .0 in (
                 g .alive r (fit .live) .0,
-                old .1,
-                g .childless r y (fit .live) (old .1),
-                λ t. (k .0, guard .left r q (H r) (lineage y (H y)) fit (guard .deliver p q (lineage y (H y)) passing (f .safe s p es y (k .1) t))),
+                born,
+                g .childless r y (fit .live) born,
+                λ t. (k .0, guard .left r q (H r) (lineage y (H y)) fit (safe y t (inr k))),
               )
-
-          safe : (y : ℕ) → H y .template ≡ guard .source → (H r .knows y ≡ true) ⊎ Told (H r .template) (H s .knows) y
-              → guard .Safe q (lineage y (H y))
-          safe y t (inl k) = f .safe r q er y k t
-          safe y t (inr k) = guard .deliver p q (lineage y (H y)) passing (f .safe s p es y (k .1) t)
 
       -- A child c at Y is born of the process r, which was p.
       pub guarded-birth : (r c Y : ℕ) (p : Process)
           → H r .born ≡ true → p .template ≡ H r .template → next ≤ c → Passes plan (p .label) Y
-          → Tagged plan p (lineage r (H r)) → Carries H (H r .knows) p
+          → Tagged plan p (lineage r (H r)) → Carries H (H r .knows) (worn p)
           → Guarded (put P c (some (child plan p c Y))) (put H c (newborn Y (lineage r (H r)) (inherited (guard .declass) c Y (H r .knows))))
       guarded-birth r c Y p born template fresh passes tags carries =
           record {
             known = put-all₂ Knows H c m
                 (λ e. (refl, refl, (λ o. let q : c < next = on-older next c (lineage r (H r)) (g .route r born .1) o in omega arith), self))
-                (λ y h e. other y (told y h e))
+                (λ y h e. other y (taken y h e))
                 (λ x h e. absurd (unknown x e)) (λ x y h h′ e. f .known x y e);
             safe = put-two (AllCarry (put H c m)) P H c (some (child plan p c Y)) m
-                (λ p′ e. put-all (IsSafe p′ knows) H c m
-                (λ k t. is p′ e (lineage c m) (own t)) (λ y h k t. is p′ e (lineage y (H y)) (passed y (told y h k) t)))
-                (λ x h p e. put-all (IsSafe p (H x .knows)) H c m
-                (λ k t. absurd (unknown x k)) (λ y h. f .safe x p e y));
+                (λ p′ e. put-all (Carried (worn p′) knows) H c m
+                (λ k. (refl, λ t. is p′ e (lineage c m) (own t)))
+                (λ y h k. (f .known r y (taken y h k .1) .1, λ t. is p′ e (lineage y (H y)) (passed y (taken y h k) t))))
+                (λ x h p e. put-all (Carried (worn p) (H x .knows)) H c m
+                (λ k. absurd (unknown x k)) (λ y h. f .safe x p e y));
           }
         where
           knows : ℕ → Bool
@@ -151,23 +158,23 @@ module _ (plan : Plan) (guard : Guard plan) where
           unknown : (x : ℕ) → H x .knows c ≡ true → ⊥
           unknown x e = unborn plan next P H g c fresh (f .known x c e .1)
 
-          own : Y ≡ guard .source → guard .Safe (child plan p c Y) (lineage c m)
+          own : Y ≡ guard .source → guard .Safe (worn (child plan p c Y)) (lineage c m)
           own t = guard .own c (child plan p c Y) m fit refl t
 
           self : Y ≡ guard .source → (has Y (guard .declass) ≡ false) × guard .Left Y (lineage c m) (lineage c m)
           self t = (rw t (guard .clear), guard .left c (child plan p c Y) m (lineage c m) fit (own t))
 
-          told : (y : ℕ) → y ≢ c → knows y ≡ true → Told Y (H r .knows) y
-          told y h e = pick (inherited-cases (guard .declass) c Y (H r .knows) y e)
+          taken : (y : ℕ) → y ≢ c → knows y ≡ true → TakesOver Y (H r .knows) y
+          taken y h e = pick (inherited-cases (guard .declass) c Y (H r .knows) y e)
             where
-              pick : (y ≡ c) ⊎ Told Y (H r .knows) y → Told Y (H r .knows) y
+              pick : (y ≡ c) ⊎ TakesOver Y (H r .knows) y → TakesOver Y (H r .knows) y
               pick (inl q) = absurd (h q)
               pick (inr k) = k
 
-          passed : (y : ℕ) → Told Y (H r .knows) y → H y .template ≡ guard .source → guard .Safe (child plan p c Y) (lineage y (H y))
-          passed y k t = guard .inherit c Y p (lineage y (H y)) (rw template (f .known r y (k .1) .3 t .0)) (k .0) passes (carries y (k .1) t)
+          passed : (y : ℕ) → TakesOver Y (H r .knows) y → H y .template ≡ guard .source → guard .Safe (worn (child plan p c Y)) (lineage y (H y))
+          passed y k t = guard .inherit c Y p (lineage y (H y)) (rw template (f .known r y (k .1) .3 t .0)) (k .0) passes (carries y (k .1) .1 t)
 
-          other : (y : ℕ) → Told Y (H r .knows) y → Known c m y (H y)
+          other : (y : ℕ) → TakesOver Y (H r .knows) y → Known c m y (H y)
           other y k =
               let old = f .known r y (k .1) in (
                 refl,
@@ -176,5 +183,5 @@ module _ (plan : Plan) (guard : Guard plan) where
                 λ t. (k .0, guard .left c (child plan p c Y) m (lineage y (H y)) fit (passed y k t)),
               )
 
-          is : (p′ : Process) → some (child plan p c Y) ≡ some p′ → (l : List Node) → guard .Safe (child plan p c Y) l → guard .Safe p′ l
+          is : (p′ : Process) → some (child plan p c Y) ≡ some p′ → (l : List Node) → guard .Safe (worn (child plan p c Y)) l → guard .Safe (worn p′) l
           is p′ e l h = let q : child plan p c Y ≡ p′ = cc in rw (← q) h

@@ -1,31 +1,27 @@
--- The whole promise, secrecy, delivery and unhindered steps, after every list of calls, for every plan and policy in
--- range of which every rule holds. From the texts it follows with what crates text and rules prove of an accepted pair.
-use Prim.Native.Nat.{ℕ}
+-- The whole promise, secrecy, delivery and unhindered steps, after every list of calls: for every plan and policy in range
+-- of which every rule holds, and so of two texts that the judge accepts, since what they say is in range (crate reader)
+-- and keeps every rule (crate verdict).
 use mathlib.Core.Path.{_≡_, refl, subst}
 use mathlib.Core.List.{List}
-use borrow.Author.Tests.{leb-true, le-leb}
-use native.Mathlib.Nat.{le-trans}
-use Rattle.plan.specs.declared.Plan.{Plan}
-use Rattle.plan.specs.declared.Kind.{Kind}
-use Rattle.plan.specs.declared.Policy.{Policy}
+use mathlib.Core.Bool.{true}
+use Rattle.plan.specs.declared.{Plan.{Plan}, Kind.{Kind}, Policy.{Policy}}
 use Rattle.plan.specs.Plan.{assertionAt}
 use Rattle.plan.specs.Range.{InRange, Clear, PolicyInRange}
 use Rattle.text.specs.Reading.{readPlan, readPolicy}
+use Rattle.reader.proofs.Range.{plan-in-range, policy-in-range}
 use Rattle.rules.specs.Rules.{Asked, EveryRule}
-use Rattle.rules.specs.declared.Verdict.the-variants.{Accepted}
-use Rattle.rules.specs.Judge.{judge}
+use Rattle.verdict.proofs.Exact.{accepted-exactly}
 use Rattle.machine.specs.Machine.{Limits, boxLimits, Call}
+use Rattle.machine.proofs.Templates.{range-fits}
+use Rattle.machine.proofs.WellFormed.{Sensible, box-limits, start-formed}
 use Rattle.promise.specs.Promise.{Promised, BoxPromise}
-use Rattle.promise.proofs.WellFormed.{Sensible}
-use Rattle.promise.proofs.Secrecy.{secret-always}
-use Rattle.promise.proofs.Delivery.{delivers-always}
-use Rattle.promise.proofs.Steps.{unhindered-always}
+use Rattle.promise.proofs.Always.{secret-always, delivers-always, unhindered-always}
 
--- The promise for every plan and policy in range of which every rule holds, under any sensible limits.
-pub promised : (limits : Limits) → Sensible limits → (plan : Plan) → InRange plan
-    → (policy : Policy) → PolicyInRange (plan .count) policy → EveryRule plan policy
+-- The promise for every plan and policy in range of which every rule holds, under any sensible limits that allow the start.
+pub promised : (limits : Limits) → Sensible limits → limits .processes 1 ≡ true → limits .serials 1 ≡ true
+    → (plan : Plan) → InRange plan → (policy : Policy) → PolicyInRange (plan .count) policy → EveryRule plan policy
     → (calls : List Call) → Promised limits plan policy calls
-promised limits sensible plan range policy in-range rules calls = record {
+promised limits fewer process serial plan range policy in-range rules calls = record {
   secrecy = λ i h kind.
       let a = assertionAt policy i in
       let rule17 = subst (λ (k : Kind). Asked plan a k) kind (rules .assertions i h) in
@@ -33,25 +29,15 @@ promised limits sensible plan range policy in-range rules calls = record {
       secret-always plan range a (rule17 .0) (rule17 .1) (rule17 .2) (clear .0) limits calls;
   prot = λ i h kind.
       let a = assertionAt policy i in
-      delivers-always plan a (subst (λ (k : Kind). Asked plan a k) kind (rules .assertions i h)) limits sensible range (a .declass) calls;
+      let rules18-19 = subst (λ (k : Kind). Asked plan a k) kind (rules .assertions i h) in
+      delivers-always plan a rules18-19 limits fewer (start-formed limits process serial plan (range-fits plan range)) (a .declass) calls;
   steps = unhindered-always plan range policy rules limits 0 calls;
 }
 
--- Document 01's limits are sensible.
-pub box-limits : Sensible boxLimits
-box-limits = record { one-process = refl; one-serial = refl; fewer = λ n more h e. le-leb n 128 (le-trans h (leb-true more 128 e)) }
-
--- What crates text and rules prove of an accepted pair of texts: what was read is in range, and every rule holds.
-abbrev pub AcceptedMeans : Type 0
-AcceptedMeans =
-    (planText policyText : List ℕ) → judge planText policyText ≡ Accepted
-    → let plan = readPlan planText .plan in
-    let policy = readPolicy (plan .count) policyText .policy in
-    InRange plan × PolicyInRange (plan .count) policy × EveryRule plan policy
-
--- With that, the box promise as it is stated.
-pub box-promise-from : AcceptedMeans → BoxPromise
-box-promise-from means planText policyText accepted calls =
-    let r = means planText policyText accepted in
+-- The box promise as it is stated.
+pub box-promise : BoxPromise
+box-promise planText policyText accepted calls =
+    let a = accepted-exactly planText policyText .0 accepted in
     let plan = readPlan planText .plan in
-    promised boxLimits box-limits plan (r .0) (readPolicy (plan .count) policyText .policy) (r .1) (r .2) calls
+    promised boxLimits box-limits refl refl plan (plan-in-range planText (a .plan-reads))
+    (readPolicy (plan .count) policyText .policy) (policy-in-range (plan .count) policyText (a .policy-reads)) (a .rules) calls

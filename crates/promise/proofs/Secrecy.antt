@@ -4,7 +4,6 @@
 use Prim.Native.Nat.{ℕ, _<_}
 use mathlib.Core.Path.{_≡_, sym, ap, _∙_}
 use mathlib.Core.Logic.{_≢_, _⊎_, inl, inr}
-use mathlib.Core.List.{List}
 use mathlib.Core.Bool.{true, false, true≢false}
 use Rattle.mask.specs.Mask.{has}
 use Rattle.plan.specs.declared.Plan.{Plan}
@@ -14,21 +13,19 @@ use Rattle.plan.specs.Range.{InRange}
 use Rattle.route.specs.Route.{SharedTag}
 use Rattle.rules.specs.Rules.{Serves}
 use Rattle.rules.specs.Judge.{wearable}
-use Rattle.machine.specs.Machine.{Limits, Call}
-use Rattle.promise.specs.History.{node, History, lineage, Kin, worldAfter}
-use Rattle.promise.specs.Promise.{Secret}
+use Rattle.machine.proofs.Live.{Population}
+use Rattle.promise.specs.History.{node, History, lineage, Kin}
 use Rattle.promise.proofs.Lineage.{maker}
 use Rattle.promise.proofs.Separation.{Separated, parted, over, under}
 use Rattle.promise.proofs.Relations.{parted-shared, over-shared}
-use Rattle.promise.proofs.Family.{Family, Population, over-above}
+use Rattle.promise.proofs.Family.{Family, over-above}
 use Rattle.promise.proofs.Guard.{secrecy-guard}
 use Rattle.promise.proofs.Knowledge.{Guarded}
-use Rattle.promise.proofs.Live.{population}
-use Rattle.promise.proofs.Always.{family-always, guarded-always}
 
 module _ (plan : Plan) (range : InRange plan) (a : Assertion) (t : ℕ) (below : t < plan .identifiers) (serves : Serves plan a t)
     (clear : has (a .source) (a .declass) ≡ false) where
-  secret : (next : ℕ) (P : Population) (H : History) → Family plan next P H → Guarded plan (secrecy-guard plan range a t below serves clear) P H
+  -- A Sink process that knows a different Source process is its kin.
+  pub secret : (next : ℕ) (P : Population) (H : History) → Family plan next P H → Guarded plan (secrecy-guard plan range a t below serves clear) P H
       → (p q : ℕ) → H p .template ≡ a .source → H q .template ≡ a .sink → p ≢ q → H q .knows p ≡ true → Kin H (a .anc) p q
   unfolding secrecy-guard
   secret next P H g f p q at-source at-sink differ knows = decide (serves .shut)
@@ -55,11 +52,3 @@ module _ (plan : Plan) (range : InRange plan) (a : Assertion) (t : ℕ) (below :
       decide : (wearable plan (a .sink) t ≡ false) ⊎ (SharedTag plan t (a .source) (a .sink) (a .anc) → ⊥) → Kin H (a .anc) p q
       decide (inl unworn) = absurd (true≢false (sym worn ∙ (ap (λ (X : ℕ). wearable plan X t) at-sink ∙ unworn)))
       decide (inr never) = unshared never (cases (g .apart p q (f .known q p knows .1) (f .known q p knows .0) differ))
-
-  -- After every list of calls no Sink process knows a different Source process that is not its kin.
-  pub secret-always : (limits : Limits) (calls : List Call) → Secret a (worldAfter limits plan (a .declass) calls)
-  unfolding secrecy-guard
-  secret-always limits calls =
-      let w = worldAfter limits plan (a .declass) calls in
-      secret (w .machine .next) (population (w .machine .live)) (w .history) (family-always limits plan (a .declass) calls .1)
-      (guarded-always limits plan (secrecy-guard plan range a t below serves clear) calls)

@@ -78,15 +78,17 @@ births declass s n [] H = H
 births declass s n (Y ∷ rest) H =
     births declass s (suc n) rest (put H n (newborn Y (lineage s (H s)) (inherited declass n Y (H s .knows))))
 
-abbrev pub hear : ℕ → ℕ → ℕ → History → History
-hear declass from to H =
-    put H to (touched (H to) (H to .live) (H to .moved) (learnt declass (H to .template) (H to .knows) (H from .knows)))
+-- The receiver `to` learns from one that has that knowledge.
+abbrev pub hear : ℕ → ℕ → (ℕ → Bool) → History → History
+hear declass to knows H =
+    put H to (touched (H to) (H to .live) (H to .moved) (learnt declass (H to .template) (H to .knows) knows))
 
 -- "It has moved its own label once an accepted raise or lower of it changed that label."
 abbrev pub mark : ℕ → Bool → History → History
 mark s changed H = put H s (touched (H s) (H s .live) (H s .moved || changed) (H s .knows))
 
--- Identifier i is not yet in the label as the move leaves it.
+-- Whether a move that leaves identifier i present, or absent, changes the label of the process that is found: true where
+-- the label has i otherwise than that, false where it has i so already or no process is found.
 abbrev pub changes : Option Process → ℕ → Bool → Bool
 changes none i present = false
 changes (some p) i present = not (Bool·beq (has i (p .label)) present)
@@ -95,7 +97,7 @@ changes (some p) i present = not (Bool·beq (has i (p .label)) present)
 abbrev pub event : ℕ → Machine → Call → History → History
 event declass m (step s branch) H =
     births declass s (m .next) (children (at (m .plan) (H s .template) .form) branch) (retire s H)
-event declass m (send from to) H = hear declass from to H
+event declass m (send from to) H = hear declass to (H from .knows) H
 event declass m (raise s i) H = mark s (changes (find s (m .live)) i true) H
 event declass m (lower s i) H = mark s (changes (find s (m .live)) i false) H
 

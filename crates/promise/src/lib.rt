@@ -1,1 +1,1 @@
-// The box promise; so far its definitions.
+// The box promise: what it claims stands in specs, its proof in proofs. No function of its own.

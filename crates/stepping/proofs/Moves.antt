@@ -15,18 +15,18 @@ use Rattle.lists.proofs.Tabulate.{getD-tabulate, tabulate-ext, tabulate-snoc}
 use Rattle.plan.specs.declared.Template.{Template}
 use Rattle.plan.specs.declared.Successors.{Successors}
 use Rattle.machine.specs.Machine.{Process}
-use Rattle.machine.specs.State.{Cells, placed, processesOf}
+use Rattle.machine.specs.State.{Cells, wordsFrom, placed, processesOf}
+use Rattle.machine.proofs.Words.{process-same, placed-same}
 use Rattle.lists.specs.Writes.{written}
 use Rattle.lists.proofs.Written.{written-in, written-below}
 use Rattle.arrays.specs.Places.{shifted, childTag}
 use Rattle.population.specs.Arrays.{cells}
 use Rattle.arrays.proofs.Rows.{row-room, row-under, row-over}
 use Rattle.arrays.proofs.Loops.{shifts-all, shifted-in, shifted-below}
-use Rattle.stepping.specs.declared.Stepped.{Stepped}
-use Rattle.stepping.specs.Stepping.{skipping, newborn, newborns, goesOn, Room, Advanced}
-
-pub process-path : (p q : Process) → p .serial ≡ q .serial → p .template ≡ q .template → p .label ≡ q .label → p .tags ≡ q .tags → p ≡ q
-process-path p q a b c d = λ i. record { serial = a i; template = b i; label = c i; tags = d i }
+use Rattle.machine.specs.declared.Answer.the-variants.{Done}
+use Rattle.population.specs.declared.Settled.{Settled}
+use Rattle.population.specs.Lent.{settles}
+use Rattle.stepping.specs.Stepping.{skipping, newborn, newborns, Room, Advanced}
 
 pub skipping-below : (k : ℕ) (f : ℕ → Process) (i : ℕ) → i < k → skipping k f i ≡ f i
 unfolding skipping
@@ -45,21 +45,19 @@ module _ (M k last from to : ℕ) (xs₁ xs₂ xs₃ xs₄ ys₁ ys₂ ys₃ ys�
       → ((j : ℕ) → getD ys₃ j 0 ≡ shifted xs₃ k last 1 j)
       → ((j : ℕ) → getD ys₄ j 0 ≡ shifted xs₄ from to M j)
       → processesOf M last (cells ys₁ ys₂ ys₃ ys₄) ≡ tabulate last (skipping k (placed M (cells xs₁ xs₂ xs₃ xs₄)))
-  unfolding processesOf placed
+  unfolding processesOf
   left h ef et e₁ e₂ e₃ e₄ =
       tabulate-ext last (placed M d) (skipping k (placed M c)) (λ i l.
       ⊎-elim
-      (λ b. process-path (placed M d i) (placed M c i)
+      (λ b. placed-same M c d i i
       (e₁ i ∙ shifted-below xs₁ k last 1 i b) (e₂ i ∙ shifted-below xs₂ k last 1 i b) (e₃ i ∙ shifted-below xs₃ k last 1 i b)
-      (tabulate-ext M (λ t. getD ys₄ (i * M + t) 0) (λ t. getD xs₄ (i * M + t) 0) (λ t w.
-      let q = row-under M i k b in e₄ (i * M + t) ∙ shifted-below xs₄ from to M (i * M + t) (omega arith)))
+      (λ t w. let q = row-under M i k b in e₄ (i * M + t) ∙ shifted-below xs₄ from to M (i * M + t) (omega arith))
       ∙ sym (skipping-below k (placed M c) i b))
-      (λ g. process-path (placed M d i) (placed M c (i + 1))
+      (λ g. placed-same M c d (i + 1) i
       (e₁ i ∙ shifted-in xs₁ k last 1 i g l) (e₂ i ∙ shifted-in xs₂ k last 1 i g l) (e₃ i ∙ shifted-in xs₃ k last 1 i g l)
-      (tabulate-ext M (λ t. getD ys₄ (i * M + t) 0) (λ t. getD xs₄ ((i + 1) * M + t) 0) (λ t w.
-      let q = row-over M i k g in let r = row-under M i last l in
+      (λ t w. let q = row-over M i k g in let r = row-under M i last l in
       e₄ (i * M + t) ∙ shifted-in xs₄ from to M (i * M + t) (omega arith) (omega arith)
-      ∙ ap (λ (j : ℕ). getD xs₄ j 0) (sym (ap (λ (j : ℕ). j * M + t) (add-one i) ∙ (let s = suc-mul i M in omega arith)))))
+      ∙ ap (λ (j : ℕ). getD xs₄ j 0) (sym (ap (λ (j : ℕ). j * M + t) (add-one i) ∙ (let s = suc-mul i M in omega arith))))
       ∙ sym (skipping-above k (placed M c) i g))
       (lt-or-le i k))
     where
@@ -96,19 +94,17 @@ module _ (M at from serial Y lab creates : ℕ) (row xs₁ xs₂ xs₃ xs₄ ys�
       → ys₁ ≡ set xs₁ at serial → ys₂ ≡ set xs₂ at Y → ys₃ ≡ set xs₃ at lab
       → ((j : ℕ) → getD ys₄ j 0 ≡ written xs₄ from 32 (λ i. childTag serial creates (getD row i 0) i) j)
       → processesOf M (at + 1) (cells ys₁ ys₂ ys₃ ys₄) ≡ processesOf M at (cells xs₁ xs₂ xs₃ xs₄) ++ (newborn M row serial Y lab creates ∷ [])
-  unfolding processesOf placed newborn
+  unfolding processesOf placed wordsFrom newborn
   entered h few n₁ n₂ n₃ ef e₁ e₂ e₃ e₄ =
       ap (λ (n : ℕ). tabulate n (placed M d)) (add-one at)
       ∙ tabulate-snoc at (placed M d)
       ∙ ap₂ (λ (ps : List Process) (p : Process). ps ++ (p ∷ []))
       (tabulate-ext at (placed M d) (placed M c) (λ i b.
-      process-path (placed M d i) (placed M c i) (kept xs₁ ys₁ at serial e₁ i b) (kept xs₂ ys₂ at Y e₂ i b) (kept xs₃ ys₃ at lab e₃ i b)
-      (tabulate-ext M (λ k. getD ys₄ (i * M + k) 0) (λ k. getD xs₄ (i * M + k) 0)
-      (λ k w. let q = row-under M i at b in e₄ (i * M + k) ∙ written-below xs₄ from 32 tagged (i * M + k) (omega arith)))))
-      (process-path (placed M d at) (newborn M row serial Y lab creates)
+      placed-same M c d i i (kept xs₁ ys₁ at serial e₁ i b) (kept xs₂ ys₂ at Y e₂ i b) (kept xs₃ ys₃ at lab e₃ i b)
+      (λ k w. let q = row-under M i at b in e₄ (i * M + k) ∙ written-below xs₄ from 32 tagged (i * M + k) (omega arith))))
+      (process-same M (getD ys₁ at 0) serial (getD ys₂ at 0) Y (getD ys₃ at 0) lab (λ k. getD ys₄ (at * M + k) 0) tagged
       (stored xs₁ ys₁ at serial e₁ (omega arith)) (stored xs₂ ys₂ at Y e₂ (omega arith)) (stored xs₃ ys₃ at lab e₃ (omega arith))
-      (tabulate-ext M (λ k. getD ys₄ (at * M + k) 0) tagged
-      (λ k w. e₄ (at * M + k) ∙ written-in xs₄ from 32 tagged (at * M + k) (omega arith) (omega arith) ∙ ap tagged (omega arith))))
+      (λ k w. e₄ (at * M + k) ∙ written-in xs₄ from 32 tagged (at * M + k) (omega arith) (omega arith) ∙ ap tagged (omega arith)))
     where
       c : Cells
       c = cells xs₁ xs₂ xs₃ xs₄
@@ -150,63 +146,76 @@ pub come : (M k from serial Y lab creates : ℕ) (row xs ts ls gs : List ℕ) (d
     → processesOf M n d ≡ ps
     → processesOf M (n + 1) e ≡ processesOf M n d ++ (newborn M row serial Y lab creates ∷ [])
     → processesOf M (n + 1) e ≡ ps ++ (newborn M (placed M (cells xs ts ls gs) k .tags) serial Y lab creates ∷ [])
-unfolding placed
+unfolding placed wordsFrom
 come M k from serial Y lab creates row xs ts ls gs d e n ps h few ef er ed ee =
     ee ∙ ap₂ (λ (ps : List Process) (p : Process). ps ++ (p ∷ [])) ed
     (same-newborn M k from serial Y lab creates row gs few ef (er ∙ ap (λ (f : ℕ). tabulate 32 (λ i. getD gs (f + i) 0)) (begins M k from h few ef)))
 
 -- ---- by the number of children
 
-module _ (M next live : ℕ) (c : Cells) (k : ℕ) (heirs : Successors) (t u : Template) (r : Stepped) (d : Cells) where
+module _ (M next live : ℕ) (c : Cells) (k : ℕ) (heirs : Successors) (t u : Template) (r : Settled) (d : Cells) where
   abbrev others : List Process
   others = tabulate (live - 1) (skipping k (placed M c))
 
   abbrev tags : List ℕ
   tags = placed M c k .tags
 
-  advanced : (n : ℕ) (ps : List Process) (live′ : ℕ) → heirs .count ≡ n → r ≡ goesOn (next + n) live′ → processesOf M live′ d ≡ others ++ ps
+  advanced : (n : ℕ) (ps : List Process) (live′ : ℕ) → heirs .count ≡ n → r ≡ settles Done (next + n) live′ → processesOf M live′ d ≡ others ++ ps
       → newborns M tags next n (heirs .first) t (heirs .second) u ≡ ps → Advanced M next live c k heirs t u r d
   advanced n ps live′ en er ed ep = record {
-    done = ap (λ (r : Stepped). r .answer) er;
-    serials = ap (λ (r : Stepped). r .next) er ∙ ap (λ (n : ℕ). next + n) (sym en);
+    done = ap (λ (r : Settled). r .answer) er;
+    serials = ap (λ (r : Settled). r .next) er ∙ ap (λ (n : ℕ). next + n) (sym en);
     processes =
-        ap (λ (r : Stepped). processesOf M (r .live) d) er ∙ ed
+        ap (λ (r : Settled). processesOf M (r .live) d) er ∙ ed
         ∙ ap (λ (ps : List Process). others ++ ps) (sym (ap (λ (n : ℕ). newborns M tags next n (heirs .first) t (heirs .second) u) en ∙ ep));
   }
 
-  pub advanced-none : heirs .count ≡ 0 → processesOf M (live - 1) d ≡ tabulate (live - 1) (skipping k (placed M c)) → r ≡ goesOn next (live - 1)
-      → Advanced M next live c k heirs t u r d
-  unfolding newborns
-  advanced-none en e er =
-      advanced 0 [] (live - 1) en (er ∙ ap (λ (n : ℕ). goesOn n (live - 1)) (omega arith)) (e ∙ sym (append-nil others)) refl
+  -- last is the place of the last process, as the code has it.
+  module _ (last : ℕ) (el : last ≡ live - 1) where
+    pub advanced-none : heirs .count ≡ 0 → processesOf M last d ≡ tabulate last (skipping k (placed M c)) → r ≡ settles Done next (live - 1)
+        → Advanced M next live c k heirs t u r d
+    unfolding newborns
+    advanced-none en e er =
+        advanced 0 [] (live - 1) en (er ∙ ap (λ (n : ℕ). settles Done n (live - 1)) (omega arith))
+        (subst (λ (l : ℕ). processesOf M l d ≡ tabulate l (skipping k (placed M c))) el e ∙ sym (append-nil others)) refl
 
-  pub advanced-one : heirs .count ≡ 1 → k < live
-      → processesOf M (live - 1 + 1) d ≡ tabulate (live - 1) (skipping k (placed M c)) ++ (newborn M (placed M c k .tags) next (heirs .first) (t .lab) (t .creates) ∷ [])
-      → r ≡ goesOn (next + 1) live → Advanced M next live c k heirs t u r d
-  unfolding newborns
-  advanced-one en h e er =
-      advanced 1 (newborn M tags next (heirs .first) (t .lab) (t .creates) ∷ []) live en er
-      (subst (λ (n : ℕ). processesOf M n d ≡ others ++ (newborn M tags next (heirs .first) (t .lab) (t .creates) ∷ [])) (omega arith) e) refl
+    pub advanced-one : heirs .count ≡ 1 → k < live
+        → processesOf M (last + 1) d ≡ tabulate last (skipping k (placed M c)) ++ (newborn M (placed M c k .tags) next (heirs .first) (t .lab) (t .creates) ∷ [])
+        → r ≡ settles Done (next + 1) live → Advanced M next live c k heirs t u r d
+    unfolding newborns
+    advanced-one en h e er =
+        advanced 1 born live en er
+        (ap (λ (n : ℕ). processesOf M n d) (omega (arith, el)) ∙ e ∙ ap (λ (l : ℕ). tabulate l (skipping k (placed M c)) ++ born) el) refl
+      where
+        born : List Process
+        born = newborn M tags next (heirs .first) (t .lab) (t .creates) ∷ []
 
-  pub advanced-two : heirs .count ≤ 2 → (heirs .count ≡ 0 → ⊥) → (heirs .count ≡ 1 → ⊥) → k < live
-      → processesOf M (live - 1 + 1 + 1) d
-      ≡ (tabulate (live - 1) (skipping k (placed M c)) ++ (newborn M (placed M c k .tags) next (heirs .first) (t .lab) (t .creates) ∷ [])) ++ (newborn M (placed M c k .tags) (next + 1) (heirs .second) (u .lab) (u .creates) ∷ [])
-      → r ≡ goesOn (next + 2) (live + 1) → Advanced M next live c k heirs t u r d
-  unfolding newborns
-  advanced-two few n0 n1 h e er =
-      advanced 2 (newborn M tags next (heirs .first) (t .lab) (t .creates) ∷ newborn M tags (next + 1) (heirs .second) (u .lab) (u .creates) ∷ []) (live + 1) (omega arith) er
-      (subst (λ (n : ℕ). processesOf M n d ≡ others ++ (newborn M tags next (heirs .first) (t .lab) (t .creates) ∷ newborn M tags (next + 1) (heirs .second) (u .lab) (u .creates) ∷ [])) (omega arith)
-      (e ∙ append-assoc others (newborn M tags next (heirs .first) (t .lab) (t .creates) ∷ []) (newborn M tags (next + 1) (heirs .second) (u .lab) (u .creates) ∷ []))) refl
+    pub advanced-two : heirs .count ≤ 2 → (heirs .count ≡ 0 → ⊥) → (heirs .count ≡ 1 → ⊥) → k < live
+        → processesOf M (last + 1 + 1) d
+        ≡ (tabulate last (skipping k (placed M c)) ++ (newborn M (placed M c k .tags) next (heirs .first) (t .lab) (t .creates) ∷ [])) ++ (newborn M (placed M c k .tags) (next + 1) (heirs .second) (u .lab) (u .creates) ∷ [])
+        → r ≡ settles Done (next + 2) (live + 1) → Advanced M next live c k heirs t u r d
+    unfolding newborns
+    advanced-two few n0 n1 h e er =
+        advanced 2 (one ∷ two ∷ []) (live + 1) (omega arith) er
+        (ap (λ (n : ℕ). processesOf M n d) (omega (arith, el)) ∙ e ∙ append-assoc (tabulate last (skipping k (placed M c))) (one ∷ []) (two ∷ [])
+        ∙ ap (λ (l : ℕ). tabulate l (skipping k (placed M c)) ++ (one ∷ two ∷ [])) el) refl
+      where
+        one : Process
+        one = newborn M tags next (heirs .first) (t .lab) (t .creates)
+
+        two : Process
+        two = newborn M tags (next + 1) (heirs .second) (u .lab) (u .creates)
 
 -- ---- room
 
-pub fork-room : (M next live k count : ℕ) → Room M next live k count → (count ≡ 0 → ⊥) → (count ≡ 1 → ⊥)
-    → (k ≤ live - 1) × (live - 1 + 1 < 128) × (M ≤ 32) × (next + 1 < 4294967296)
-fork-room M next live k count room n0 n1 =
+pub fork-room : (M next live k count last : ℕ) → Room M next live k count → (count ≡ 0 → ⊥) → (count ≡ 1 → ⊥) → last ≡ live - 1
+    → (k ≤ last) × (last + 1 < 128) × (M ≤ 32) × (next + 1 < 4294967296)
+fork-room M next live k count last room n0 n1 el =
     let few = room .children in
     let two : count ≡ 2 = omega arith in
     let spare = room .spare two in
-    (omega arith, omega arith, room .identifiers, omega arith)
+    let here = room .place in
+    (omega (arith, el, here), omega (arith, el, here, spare), room .identifiers, omega arith)
 
 pub fork-serials : (M next live k count : ℕ) → Room M next live k count → (count ≡ 0 → ⊥) → (count ≡ 1 → ⊥) → next + 2 < 4294967296
 fork-serials M next live k count room n0 n1 = let few = room .children in omega arith

@@ -19,7 +19,7 @@ use Rattle.rules.specs.Judge.{offends12, offends13, offends16}
 use Rattle.machine.specs.declared.Answer.the-variants.{Done, Refused}
 use Rattle.machine.specs.Machine.{refuseIf, branchFits}
 use Rattle.population.specs.Lent.{answerFor}
-use Rattle.population.proofs.Lent.{refuse-yes, refuse-no, refuse-done}
+use Rattle.machine.proofs.Outcomes.{refuse-yes, refuse-no, refuse-done}
 use Rattle.stepping.specs.Stepping.{offending, fitting, allFitting, refusalOf, Room}
 
 -- ---- 25

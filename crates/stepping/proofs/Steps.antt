@@ -1,7 +1,7 @@
 -- The whole step: the parts are the machine's.
-use Prim.Native.Nat.{ℕ, zero, suc, _+_, _-_, _*_, _≤_, _<_}
+use Prim.Native.Nat.{ℕ, zero, suc, _+_, _-_, _≤_, _<_}
 use mathlib.Core.Path.{_≡_, refl, sym, ap, ap₂, _∙_, subst}
-use mathlib.Core.Bool.{Bool, true, false, not, _&&_, and-true}
+use mathlib.Core.Bool.{Bool, true, not, _&&_, and-true}
 use mathlib.Core.List.{List, [], _∷_, _++_}
 use mathlib.Core.Option.{some}
 use native.Mathlib.Numerals.{add-one}
@@ -10,8 +10,6 @@ use lib.Dec.{eqb, leb, ltb}
 use borrow.Author.Tests.{ltb-true}
 use Rattle.lists.proofs.Tests.{and-left, and-right}
 use lib.ListN.{length, getD}
-use mir.Val.{Fits}
-use mir.Syntax.{w64}
 use Rattle.lists.specs.Numbers.{all, lowest, tabulate}
 use Rattle.plan.specs.declared.Form.{Form}
 use Rattle.plan.specs.declared.Plan.{Plan}
@@ -19,23 +17,23 @@ use Rattle.plan.specs.declared.Template.{Template}
 use Rattle.plan.specs.declared.Successors.{Successors}
 use Rattle.plan.specs.Plan.{at, creates, successors}
 use Rattle.plan.specs.Listed.{listFor, listed}
+use Rattle.planrow.specs.Row.{identifiersIn}
 use Rattle.planrow.specs.Lookup.{planFor, templateAt}
 use Rattle.machine.specs.declared.Answer.{Answer}
 use Rattle.machine.specs.declared.Answer.the-variants.{Done, Refused}
-use Rattle.machine.specs.Machine.{Process, step, boxLimits, wellFormed, tag, remove, refuseIf, branchFits, children, mayBecome, child, spawn, stepAnswer, stepped, stepBy, answerTo, run}
-use Rattle.machine.specs.State.{Cells, placed, processesOf, machineFrom}
+use Rattle.machine.specs.Machine.{Process, Machine, step, boxLimits, wellFormed, tag, remove, refuseIf, branchFits, children, mayBecome, child, spawn, stepAnswer, stepped, stepBy, answerTo}
+use Rattle.machine.specs.State.{Cells, placed, processesOf, machineFrom, unlessDone}
+use Rattle.machine.proofs.Outcomes.{settled-refused, settled-done}
 use Rattle.machine.proofs.Places.{remove-at}
-use Rattle.machine.proofs.Templates.{children-fit}
-use Rattle.arrays.specs.Places.{childTag}
-use Rattle.machine.specs.State.{ifRefused}
-use Rattle.population.specs.Lent.{Same, Did, answerFor}
-use Rattle.population.proofs.Fits.{length-processes, formed-live, formed-plan, formed-count, formed-template, formed-successors, plan-few, place-few, place-offset}
-use Rattle.population.proofs.RowFits.{formed-identifiers, formed-lookup, few-words, looked-at}
-use Rattle.population.proofs.Lent.{did-refused, did-same, settled-refused, settled-done, run-bad, run-formed, found-none, found-some, found-serial, alone}
-use Rattle.stepping.specs.declared.Stepped.{Stepped}
-use Rattle.stepping.specs.Stepping.{fitting, allFitting, refusalOf, skipping, newborn, newborns, stays, Room, Advanced}
+use Rattle.machine.proofs.Templates.{successors-fit, children-fit, plan-rooted}
+use Rattle.arrays.specs.Places.{Located, childTag}
+use Rattle.population.specs.declared.Settled.{Settled}
+use Rattle.population.specs.Arrays.{cells}
+use Rattle.population.specs.Lent.{settles, outcomeFrom, Same, unlessStep, Tried, answerFor}
+use Rattle.population.proofs.Fits.{length-processes, formed-plan, formed-template, formed-identifiers, formed-few, formed-lookup, looked-at}
+use Rattle.population.proofs.Lent.{numbered, untouched, tried-same, placed-at, found-none, found-some, found-serial, alone}
+use Rattle.stepping.specs.Stepping.{fitting, allFitting, refusalOf, skipping, newborn, newborns, Advanced, SteppedAt}
 use Rattle.stepping.proofs.Moves.{skipping-below, skipping-above}
-use Rattle.stepping.proofs.Refusals.{room-left}
 
 -- ---- the list of children and the code's two
 
@@ -109,29 +107,18 @@ module _ (plan : Plan) (next live : ℕ) (c : Cells) (k branch : ℕ) (well : we
             (refuseIf (not fits) 25
             Done)))
 
-    step-refused : (r : Stepped) → (q ≡ 0 → ⊥) → r ≡ stays q next live
-        → Did plan next live c (r .answer) (r .next) (r .live) c (stepBy boxLimits (machineFrom plan next live c) (getD (c .serials) k 0) branch (some (placed (plan .identifiers) c k)))
+    abbrev Stepped : Settled → Cells → Type 0
+    Stepped r d = outcomeFrom plan r d ≡ stepBy boxLimits (machineFrom plan next live c) (getD (c .serials) k 0) branch (some (placed (plan .identifiers) c k))
+
+    step-refused : (q ≡ 0 → ⊥) → Stepped (settles (Refused q) next live) c
     unfolding stepBy machineFrom placed
-    step-refused r n er =
-        subst (λ (r : Stepped). Did plan next live c (r .answer) (r .next) (r .live) c (stepBy boxLimits (machineFrom plan next live c) s branch (some (placed M c k)))) (sym er)
-        (did-refused plan next live c (Refused q) q _ refl (settled-refused _ _ _ q (answers ∙ numbered q n)))
-      where
-        numbered : (q : ℕ) → (q ≡ 0 → ⊥) → answerFor q ≡ Refused q
-        numbered zero n = absurd (n refl)
-        numbered (suc q) n = refl
+    step-refused n = sym (settled-refused _ _ _ q (answers ∙ numbered q n))
 
-    step-room : q ≡ 0 → Room (plan .identifiers) next live k (heirs .count)
-    step-room z = room-left M next live (getD (c .labels) k 0) (t .form) branch (heirs .count) first second q k eq z (plan-few plan (formed-plan plan next live c well)) h (formed-live plan next live c well) few
-
-    step-done : (r : Stepped) (d : Cells) → q ≡ 0 → Advanced (plan .identifiers) next live c k heirs first second r d
-        → Did plan next live c (r .answer) (r .next) (r .live) d (stepBy boxLimits (machineFrom plan next live c) (getD (c .serials) k 0) branch (some (placed (plan .identifiers) c k)))
-    unfolding stepBy stepped machineFrom placed ifRefused
-    step-done r d z w = record {
-      means =
-          (λ i. record { answer = w .done i; machine = record { plan = plan; next = serials i; live = processes i } })
-          ∙ sym (settled-done _ _ _ (answers ∙ ap answerFor z));
-      same = subst (λ (a : Answer). ifRefused a (Same next live c (r .next) (r .live) d)) (sym (w .done)) Prim.tt;
-    }
+    step-done : (r : Settled) (d : Cells) → q ≡ 0 → Advanced (plan .identifiers) next live c k heirs first second r d → Stepped r d
+    unfolding stepBy stepped machineFrom placed
+    step-done r d z w =
+        (λ i. record { answer = w .done i; machine = record { plan = plan; next = serials i; live = processes i } })
+        ∙ sym (settled-done _ _ _ (answers ∙ ap answerFor z))
       where
         serials : r .next ≡ next + length templates
         serials =
@@ -142,36 +129,6 @@ module _ (plan : Plan) (next live : ℕ) (c : Cells) (k branch : ℕ) (well : we
             w .processes
             ∙ sym (ap₂ _++_ removed
             (ap (spawn plan (placed M c k) next) same-templates ∙ spawn-newborns plan (heirs .first) (heirs .second) first second e₁ e₂ (placed M c k) next (heirs .count)))
-
--- ---- 20, 21 and the rest
-
-module _ (plan : Plan) (next live : ℕ) (c : Cells) (serial branch : ℕ) (r : Stepped) (g : Bool) (eg : g ≡ wellFormed boxLimits (machineFrom plan next live c)) where
-  pub step-bad : not g ≡ true → r ≡ stays 20 next live
-      → Did plan next live c (r .answer) (r .next) (r .live) c (run boxLimits (machineFrom plan next live c) (step serial branch))
-  step-bad h er =
-      subst (λ (r : Stepped). Did plan next live c (r .answer) (r .next) (r .live) c (run boxLimits (machineFrom plan next live c) (step serial branch))) (sym er)
-      (did-refused plan next live c (Refused 20) 20 _ refl (run-bad plan next live c g eg (step serial branch) h))
-
-  module _ (h : not g ≡ false) (k : ℕ) (ek : k ≡ lowest live (λ i. eqb (getD (c .serials) i 0) serial)) where
-    pub step-gone : live ≤ k → r ≡ stays 21 next live
-        → Did plan next live c (r .answer) (r .next) (r .live) c (run boxLimits (machineFrom plan next live c) (step serial branch))
-    unfolding answerTo stepBy machineFrom
-    step-gone l er =
-        subst (λ (r : Stepped). Did plan next live c (r .answer) (r .next) (r .live) c (run boxLimits (machineFrom plan next live c) (step serial branch))) (sym er)
-        (did-refused plan next live c (Refused 21) 21 _ refl
-        (run-formed plan next live c g eg (step serial branch) h
-        ∙ ap (stepBy boxLimits (machineFrom plan next live c) serial branch) (found-none (plan .identifiers) live c serial k ek l)
-        ∙ settled-refused _ _ _ 21 refl))
-
-    pub step-live : (d : Cells) → k < live
-        → Did plan next live c (r .answer) (r .next) (r .live) d (stepBy boxLimits (machineFrom plan next live c) (getD (c .serials) k 0) branch (some (placed (plan .identifiers) c k)))
-        → Did plan next live c (r .answer) (r .next) (r .live) d (run boxLimits (machineFrom plan next live c) (step serial branch))
-    unfolding answerTo machineFrom
-    step-live d l w =
-        did-same plan next live c (r .answer) (r .next) (r .live) d _ _
-        (run-formed plan next live c g eg (step serial branch) h
-        ∙ ap₂ (λ (s : ℕ) p. stepBy boxLimits (machineFrom plan next live c) s branch p) (sym (found-serial (plan .identifiers) live c serial k ek l)) (found-some (plan .identifiers) live c serial k ek l))
-        w
 
 -- ---- the children's templates are below N
 
@@ -187,56 +144,92 @@ all-next n (y ∷ ys) h e = all-head n ys h (and-right (ltb y n) _ e)
 
 -- ---- the step as the code meets it, the templates being looked up in the row
 
-module _ (row : List ℕ) (next live : ℕ) (c : Cells) (k : ℕ) (well : wellFormed boxLimits (machineFrom (planFor row) next live c) ≡ true) (h : k < live) where
-  pub at-place : k < 128
-  at-place = place-few (planFor row) next live c true (sym well) refl k h
+module _ (row : List ℕ) (next live : ℕ) (c : Cells) (k branch : ℕ) (h : k < live) (w : ℕ) (ew : w ≡ identifiersIn row) where
+  -- A row of more than 32 identifiers means a bad state.
+  pub place-wide : 32 < w → (r : Settled) → r ≡ settles (Refused 20) next live → SteppedAt (planFor row) next live c k branch r c
+  place-wide l r er =
+      subst (λ (r : Settled). SteppedAt (planFor row) next live c k branch r c) (sym er) (record {
+        means = λ well. absurd (formed-few row next live c well w ew l);
+        same = untouched (planFor row) next live c (Refused 20);
+      })
 
-  pub at-offset : Fits w64 (k * 4)
-  at-offset = place-offset (planFor row) next live c true (sym well) refl k h
+  module _ (t : Template) (looked : t ≡ templateAt row (getD (c .templates) k 0)) (heirs : Successors) (eh : listed heirs ≡ children (t .form) branch) (few : heirs .count ≤ 2)
+      (ef : heirs .first ≡ getD (children (t .form) branch) 0 0) (es : heirs .second ≡ getD (children (t .form) branch) 1 0)
+      (first second : Template) (l₁ : first ≡ templateAt row (heirs .first)) (l₂ : second ≡ templateAt row (heirs .second))
+      (q : ℕ) (eq : answerFor q ≡ refusalOf w next live (getD (c .labels) k 0) (t .form) branch (heirs .count) first second) where
+    module _ (well : wellFormed boxLimits (machineFrom (planFor row) next live c) ≡ true) where
+      found : t ≡ at (planFor row) (getD (c .templates) k 0)
+      found = looked-at row next live c well k h t looked
 
-  pub at-identifiers : getD row 1 0 ≤ 32
-  at-identifiers = few-words row next live c true (sym well) refl
+      fit : all (λ Y. ltb Y (planFor row .count)) (children (t .form) branch) ≡ true
+      fit =
+          children-fit (planFor row .count) branch (t .form)
+          (ap (λ (t : Template). all (λ Y. ltb Y (planFor row .count)) (successors (t .form))) found
+          ∙ successors-fit (planFor row) (formed-plan (planFor row) next live c well) (getD (c .templates) k 0) (formed-template (planFor row) next live c well k h))
 
-  module _ (t : Template) (looked : t ≡ templateAt row (getD (c .templates) k 0)) where
-    found : t ≡ at (planFor row) (getD (c .templates) k 0)
-    found = looked-at row next live c true (sym well) refl k h t looked
+      some-template : 0 < planFor row .count
+      some-template = plan-rooted (planFor row) (formed-plan (planFor row) next live c well)
 
-    fit : (branch : ℕ) → all (λ Y. ltb Y (planFor row .count)) (children (t .form) branch) ≡ true
-    fit branch =
-        children-fit (planFor row .count) branch (t .form)
-        (ap (λ (t : Template). all (λ Y. ltb Y (planFor row .count)) (successors (t .form))) found
-        ∙ formed-successors (planFor row) next live c well (getD (c .templates) k 0) (formed-template (planFor row) next live c well k h))
-
-    module _ (branch : ℕ) (heirs : Successors) (eh : listed heirs ≡ children (t .form) branch) (few : heirs .count ≤ 2)
-        (ef : heirs .first ≡ getD (children (t .form) branch) 0 0) (es : heirs .second ≡ getD (children (t .form) branch) 1 0)
-        (first second : Template) (l₁ : first ≡ templateAt row (heirs .first)) (l₂ : second ≡ templateAt row (heirs .second))
-        (q : ℕ) (eq : answerFor q ≡ refusalOf (getD row 1 0) next live (getD (c .labels) k 0) (t .form) branch (heirs .count) first second) where
-      below : (y i : ℕ) → y ≡ getD (children (t .form) branch) i 0 → getD (children (t .form) branch) i 0 < planFor row .count → y < planFor row .count
-      below y i e l = subst (λ (y : ℕ). y < planFor row .count) (sym e) l
+      looked-child : (y i : ℕ) (u : Template) → y ≡ getD (children (t .form) branch) i 0 → getD (children (t .form) branch) i 0 < planFor row .count → u ≡ templateAt row y → u ≡ at (planFor row) y
+      looked-child y i u e l eu = eu ∙ formed-lookup row next live c well y (subst (λ (y : ℕ). y < planFor row .count) (sym e) l)
 
       e₁ : first ≡ at (planFor row) (heirs .first)
-      e₁ = l₁ ∙ formed-lookup row next live c well (heirs .first) (below (heirs .first) 0 ef (all-head (planFor row .count) (children (t .form) branch) (formed-count (planFor row) next live c well .0) (fit branch)))
+      e₁ = looked-child (heirs .first) 0 first ef (all-head (planFor row .count) (children (t .form) branch) some-template fit) l₁
 
       e₂ : second ≡ at (planFor row) (heirs .second)
-      e₂ = l₂ ∙ formed-lookup row next live c well (heirs .second) (below (heirs .second) 1 es (all-next (planFor row .count) (children (t .form) branch) (formed-count (planFor row) next live c well .0) (fit branch)))
+      e₂ = looked-child (heirs .second) 1 second es (all-next (planFor row .count) (children (t .form) branch) some-template fit) l₂
 
-      M-is : planFor row .identifiers ≡ getD row 1 0
-      M-is = formed-identifiers row next live c well
+      M-is : planFor row .identifiers ≡ w
+      M-is = formed-identifiers row next live c well ∙ sym ew
 
       eq′ : answerFor q ≡ refusalOf (planFor row .identifiers) next live (getD (c .labels) k 0) (t .form) branch (heirs .count) first second
       eq′ = eq ∙ ap (λ (M : ℕ). refusalOf M next live (getD (c .labels) k 0) (t .form) branch (heirs .count) first second) (sym M-is)
 
-      pub place-refused : (r : Stepped) → (q ≡ 0 → ⊥) → r ≡ stays q next live
-          → Did (planFor row) next live c (r .answer) (r .next) (r .live) c (stepBy boxLimits (machineFrom (planFor row) next live c) (getD (c .serials) k 0) branch (some (placed (planFor row .identifiers) c k)))
-      place-refused = step-refused (planFor row) next live c k branch well h t found heirs eh few first second e₁ e₂ q eq′
+    pub place-refused : (r : Settled) → (q ≡ 0 → ⊥) → r ≡ settles (Refused q) next live → SteppedAt (planFor row) next live c k branch r c
+    place-refused r n er =
+        subst (λ (r : Settled). SteppedAt (planFor row) next live c k branch r c) (sym er) (record {
+          means = λ well. step-refused (planFor row) next live c k branch well h t (found well) heirs eh few first second (e₁ well) (e₂ well) q (eq′ well) n;
+          same = untouched (planFor row) next live c (Refused q);
+        })
 
-      pub place-room : q ≡ 0 → Room (getD row 1 0) next live k (heirs .count)
-      place-room z =
-          subst (λ (M : ℕ). Room M next live k (heirs .count)) M-is
-          (step-room (planFor row) next live c k branch well h t found heirs eh few first second e₁ e₂ q eq′ z)
+    pub place-done : (r : Settled) (d : Cells) → q ≡ 0 → Advanced w next live c k heirs first second r d → SteppedAt (planFor row) next live c k branch r d
+    unfolding unlessDone
+    place-done r d z v = record {
+      means = λ well.
+          step-done (planFor row) next live c k branch well h t (found well) heirs eh few first second (e₁ well) (e₂ well) q (eq′ well) r d z
+          (subst (λ (M : ℕ). Advanced M next live c k heirs first second r d) (sym (M-is well)) v);
+      same = subst (λ (a : Answer). unlessDone a (Same next live c r d)) (sym (v .done)) Prim.tt;
+    }
 
-      pub place-done : (r : Stepped) (d : Cells) → q ≡ 0 → Advanced (getD row 1 0) next live c k heirs first second r d
-          → Did (planFor row) next live c (r .answer) (r .next) (r .live) d (stepBy boxLimits (machineFrom (planFor row) next live c) (getD (c .serials) k 0) branch (some (placed (planFor row .identifiers) c k)))
-      place-done r d z w =
-          step-done (planFor row) next live c k branch well h t found heirs eh few first second e₁ e₂ q eq′ r d z
-          (subst (λ (M : ℕ). Advanced M next live c k heirs first second r d) (sym M-is) w)
+-- ---- 21 and the rest; n is live as an index
+
+module _ (row : List ℕ) (next live n : ℕ) (xs ts ls gs : List ℕ) (serial branch : ℕ) (r : Settled) (en : n ≡ live) (sized : length xs ≡ 128) (k : ℕ) (at-k : Located xs 0 live serial k) where
+  abbrev c : Cells
+  c = cells xs ts ls gs
+
+  abbrev m : Machine
+  m = machineFrom (planFor row) next live c
+
+  place : wellFormed boxLimits m ≡ true → k ≡ lowest live (λ i. eqb (getD xs i 0) serial)
+  place well = placed-at (planFor row) next live c well serial k sized at-k
+
+  pub step-gone : n ≤ k → r ≡ settles (Refused 21) next live → Tried (planFor row) next live (cells xs ts ls gs) (step serial branch) r (cells xs ts ls gs)
+  unfolding answerTo stepBy machineFrom
+  step-gone l er =
+      tried-same (planFor row) next live c (step serial branch) (Refused 21) r er (λ well.
+      sym (ap (stepBy boxLimits m serial branch) (found-none (planFor row .identifiers) live c serial k (place well) (omega (arith, en))) ∙ settled-refused _ _ _ 21 refl))
+
+  pub step-live : (d : Cells) → k < n → SteppedAt (planFor row) next live (cells xs ts ls gs) k branch r d → Tried (planFor row) next live (cells xs ts ls gs) (step serial branch) r d
+  unfolding answerTo machineFrom unlessStep
+  step-live d l w = record {
+    means = λ well.
+        w .means well
+        ∙ sym (ap₂ (λ (s : ℕ) p. stepBy boxLimits m s branch p) (sym (found-serial (planFor row .identifiers) live c serial k (place well) (omega (arith, en))))
+        (found-some (planFor row .identifiers) live c serial k (place well) (omega (arith, en))));
+    same = w .same;
+    others = Prim.tt;
+  }
+
+-- The place is one of the array's.
+pub step-place : (live n : ℕ) (xs : List ℕ) (serial k : ℕ) → n ≡ live → length xs ≡ 128 → Located xs 0 live serial k → k < n → (k < live) × (live ≤ 128)
+step-place live n xs serial k en sized at-k l = let q = at-k .there (omega (arith, en, l)) in (omega (arith, en, l), omega (arith, q, sized))

@@ -1,6 +1,6 @@
 -- The parts of a step in the arrays' own terms: what the functions of this crate hand to one another. A law beside it
 -- says that together they are the machine's step.
--- Not to be believed: the contract of `step` is stated with the machine alone.
+-- Not to be believed: the contract of `attempt` is stated with the machine alone.
 use Prim.Native.Nat.{ℕ, zero, suc, _+_, _-_, _≤_, _<_}
 use mathlib.Core.Path.{_≡_}
 use mathlib.Core.Bool.{Bool, true, not, cond, _&&_}
@@ -12,14 +12,17 @@ use Rattle.lists.specs.Numbers.{every, tabulate}
 use Rattle.mask.specs.Mask.{without}
 use Rattle.plan.specs.declared.Form.{Form}
 use Rattle.plan.specs.declared.Template.{Template}
+use Rattle.plan.specs.declared.Plan.{Plan}
+use mathlib.Core.Option.{some}
 use Rattle.plan.specs.declared.Successors.{Successors}
 use Rattle.rules.specs.Judge.{offends12, offends13, offends16}
 use Rattle.machine.specs.declared.Answer.{Answer}
-use Rattle.machine.specs.declared.Answer.the-variants.{Done, Refused}
-use Rattle.machine.specs.Machine.{Process, refuseIf, branchFits}
-use Rattle.machine.specs.State.{Cells, placed, processesOf}
+use Rattle.machine.specs.declared.Answer.the-variants.{Done}
+use Rattle.machine.specs.Machine.{Process, boxLimits, wellFormed, refuseIf, branchFits, stepBy}
+use Rattle.machine.specs.State.{Cells, placed, processesOf, machineFrom, unlessDone}
 use Rattle.arrays.specs.Places.{childTag}
-use Rattle.stepping.specs.declared.Stepped.{Stepped}
+use Rattle.population.specs.declared.Settled.{Settled}
+use Rattle.population.specs.Lent.{outcomeFrom, Same}
 
 -- The mask of the identifiers that offend against rule 12, 13 or 16.
 unfoldable pub offending : ℕ → Template → ℕ
@@ -62,13 +65,6 @@ newborns M tags next zero Y t Z u = []
 newborns M tags next (suc zero) Y t Z u = newborn M tags next Y (t .lab) (t .creates) ∷ []
 newborns M tags next (suc (suc n)) Y t Z u = newborn M tags next Y (t .lab) (t .creates) ∷ newborn M tags (next + 1) Z (u .lab) (u .creates) ∷ []
 
--- What a step leaves that is refused, and one that is done.
-abbrev pub stays : ℕ → ℕ → ℕ → Stepped
-stays number next live = record { answer = Refused number; next = next; live = live }
-
-abbrev pub goesOn : ℕ → ℕ → Stepped
-goesOn next live = record { answer = Done; next = next; live = live }
-
 -- There is a process at place k, and room for count children.
 pub record Room (M next live k count : ℕ) : Type 0 where
   pub identifiers : M ≤ 32
@@ -79,8 +75,14 @@ pub record Room (M next live k count : ℕ) : Type 0 where
   pub spare : count ≡ 2 → live < 128
 
 -- The process at place k has gone and its children have come.
-pub record Advanced (M next live : ℕ) (c : Cells) (k : ℕ) (heirs : Successors) (t u : Template) (r : Stepped) (d : Cells) : Type 0 where
+pub record Advanced (M next live : ℕ) (c : Cells) (k : ℕ) (heirs : Successors) (t u : Template) (r : Settled) (d : Cells) : Type 0 where
   pub done : r .answer ≡ Done
   pub serials : r .next ≡ next + heirs .count
   pub processes : processesOf M (r .live) d
       ≡ tabulate (live - 1) (skipping k (placed M c)) ++ newborns M (placed M c k .tags) next (heirs .count) (heirs .first) t (heirs .second) u
+
+-- The step of the process at place k, below refusal 20.
+pub record SteppedAt (plan : Plan) (next live : ℕ) (c : Cells) (k branch : ℕ) (r : Settled) (d : Cells) : Type 0 where
+  pub means : wellFormed boxLimits (machineFrom plan next live c) ≡ true
+      → outcomeFrom plan r d ≡ stepBy boxLimits (machineFrom plan next live c) (getD (c .serials) k 0) branch (some (placed (plan .identifiers) c k))
+  pub same : unlessDone (r .answer) (Same next live c r d)

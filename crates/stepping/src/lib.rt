@@ -1,30 +1,23 @@
-// Document 01, Step, on a lent row and lent arrays: the process goes, the places above it move down, its children come after all
-// others.
+// Document 01, Step, on a lent row and lent arrays, below refusal 20: the process goes, the places above it move down, its
+// children come after all others.
 use machine::Answer;
 use plan::Form;
 use plan::Successors;
 use plan::Template;
+use planrow::WORDS;
+use population::Settled;
 ghost use mathlib.Core.Path.{_≡_};
-ghost use mathlib.Core.Bool.{true};
 ghost use mathlib.Core.List.{[], _∷_, _++_};
 ghost use Prim.Native.Nat.{_<_, _≤_, _+_};
-ghost use lib.ListN.{getD, length, set};
+ghost use lib.ListN.{getD};
 ghost use Rattle.lists.specs.Numbers.{tabulate};
 ghost use Rattle.plan.specs.Listed.{listed};
 ghost use Rattle.planrow.specs.Lookup.{planFor};
-ghost use Rattle.machine.specs.Machine.{boxLimits, wellFormed, branchFits, children, stepBy, step, run};
-ghost use Rattle.machine.specs.State.{placed, processesOf, machineFrom};
+ghost use Rattle.machine.specs.Machine.{branchFits, children, step};
+ghost use Rattle.machine.specs.State.{placed, processesOf};
 ghost use Rattle.population.specs.Arrays.{cells};
-ghost use Rattle.population.specs.Lent.{answerFor, Did};
-ghost use mathlib.Core.Option.{some};
-ghost use Rattle.stepping.specs.Stepping.{offending, fitting, allFitting, refusalOf, skipping, newborn, stays, goesOn, Room, Advanced};
-
-// What a step leaves beside the arrays.
-pub struct Stepped {
-    pub answer: Answer,
-    pub next: u32,
-    pub live: usize,
-}
+ghost use Rattle.population.specs.Lent.{answerFor, Tried};
+ghost use Rattle.stepping.specs.Stepping.{offending, fitting, allFitting, refusalOf, skipping, newborn, Room, Advanced, SteppedAt};
 
 // Document 01, 22: "branch is not 0, or for `either` not 0 or 1".
 fn is_branch(form: Form, branch: u32) -> bool
@@ -95,7 +88,7 @@ fn are_fitting(m: u32, label: u32, count: u8, first: Template, second: Template)
 fn refusal(
     m: u32,
     next: u32,
-    live: usize,
+    live: u32,
     label: u32,
     form: Form,
     branch: u32,
@@ -121,28 +114,13 @@ fn refusal(
     0
 }
 
-// Stores through a slice: a slice's length is known after it, that of a lent array is not.
-fn put(xs: &mut [u32], at: usize, v: u32)
-    requires { ⌜ at < length (now xs) ⌝ }
-    ensures { λ _. ⌜ now (xs .exit) ≡ set (now (xs .entry)) at v ⌝ }
-{
-    xs[at] = v;
-}
-
-fn put_u8(bytes: &mut [u8], at: usize, v: u8)
-    requires { ⌜ at < length (now bytes) ⌝ }
-    ensures { λ _. ⌜ now (bytes .exit) ≡ set (now (bytes .entry)) at v ⌝ }
-{
-    bytes[at] = v;
-}
-
 // The process at place k goes: those above it move down.
 fn leave<'a>(
     m: u32,
     k: usize,
     last: usize,
     serials: &'a mut [u32; 128],
-    templates: &'a mut [u8; 128],
+    templates: &'a mut [u32; 128],
     labels: &'a mut [u32; 128],
     tags: &'a mut [u32; 4096],
 )
@@ -153,7 +131,7 @@ fn leave<'a>(
         ⌜ processesOf m last d ≡ tabulate last (skipping k (placed m c)) ⌝ }
 {
     arrays::shift(serials, k, last, 1);
-    arrays::shift_u8(templates, k, last, 1);
+    arrays::shift(templates, k, last, 1);
     arrays::shift(labels, k, last, 1);
     let from = arrays::row_start(k as u32, m);
     let to = arrays::row_start(last as u32, m);
@@ -165,12 +143,12 @@ fn enter<'a>(
     m: u32,
     at: usize,
     serial: u32,
-    y: u8,
+    y: u32,
     lab: u32,
     creates: u32,
     row: [u32; 32],
     serials: &'a mut [u32; 128],
-    templates: &'a mut [u8; 128],
+    templates: &'a mut [u32; 128],
     labels: &'a mut [u32; 128],
     tags: &'a mut [u32; 4096],
 )
@@ -180,9 +158,9 @@ fn enter<'a>(
         let d = cells (now (serials .exit)) (now (templates .exit)) (now (labels .exit)) (now (tags .exit)) in
         ⌜ processesOf m (at + 1) d ≡ processesOf m at c ++ (newborn m row serial y lab creates ∷ []) ⌝ }
 {
-    put(serials, at, serial);
-    put_u8(templates, at, y);
-    put(labels, at, lab);
+    arrays::put(serials, at, serial);
+    arrays::put(templates, at, y);
+    arrays::put(labels, at, lab);
     let from = arrays::row_start(at as u32, m);
     arrays::write_row(tags, from, row, creates, serial);
 }
@@ -193,10 +171,10 @@ fn replace<'a>(
     k: usize,
     last: usize,
     serial: u32,
-    y: u8,
+    y: u32,
     t: Template,
     serials: &'a mut [u32; 128],
-    templates: &'a mut [u8; 128],
+    templates: &'a mut [u32; 128],
     labels: &'a mut [u32; 128],
     tags: &'a mut [u32; 4096],
 )
@@ -230,12 +208,12 @@ fn fork<'a>(
     k: usize,
     last: usize,
     serial: u32,
-    y: u8,
+    y: u32,
     t: Template,
-    z: u8,
+    z: u32,
     u: Template,
     serials: &'a mut [u32; 128],
-    templates: &'a mut [u8; 128],
+    templates: &'a mut [u32; 128],
     labels: &'a mut [u32; 128],
     tags: &'a mut [u32; 4096],
 )
@@ -263,71 +241,41 @@ fn fork<'a>(
     );
 }
 
-fn refused(number: u8, next: u32, live: usize) -> Stepped
-    ensures { λ r. ⌜ r ≡ stays number next live ⌝ }
-{
-    Stepped {
-        answer: Answer::Refused(number),
-        next: next,
-        live: live,
-    }
-}
-
-fn finished(next: u32, live: usize) -> Stepped
-    ensures { λ r. ⌜ r ≡ goesOn next live ⌝ }
-{
-    Stepped {
-        answer: Answer::Done,
-        next: next,
-        live: live,
-    }
-}
-
 // "Else the process goes": its children are those of the first count of the two templates.
 fn advance<'a>(
     m: u32,
     next: u32,
-    live: usize,
+    live: u32,
     k: usize,
     heirs: Successors,
     first: Template,
     second: Template,
     serials: &'a mut [u32; 128],
-    templates: &'a mut [u8; 128],
+    templates: &'a mut [u32; 128],
     labels: &'a mut [u32; 128],
     tags: &'a mut [u32; 4096],
-) -> Stepped
+) -> Settled
     requires { ⌜ Room m next live k (heirs .count) ⌝ }
     ensures { λ r.
         let c = cells (now (serials .entry)) (now (templates .entry)) (now (labels .entry)) (now (tags .entry)) in
         let d = cells (now (serials .exit)) (now (templates .exit)) (now (labels .exit)) (now (tags .exit)) in
         ⌜ Advanced m next live c k heirs first second r d ⌝ }
 {
-    let y = heirs.first;
-    let z = heirs.second;
+    let y = heirs.first as u32;
+    let z = heirs.second as u32;
+    let last = arrays::index(live - 1);
     if heirs.count == 0 {
-        leave(m, k, live - 1, serials, templates, labels, tags);
-        return finished(next, live - 1);
+        leave(m, k, last, serials, templates, labels, tags);
+        return population::settle(Answer::Done, next, live - 1);
     }
     if heirs.count == 1 {
-        replace(
-            m,
-            k,
-            live - 1,
-            next,
-            y,
-            first,
-            serials,
-            templates,
-            labels,
-            tags,
-        );
-        return finished(next + 1, live);
+        replace(m, k, last, next, y, first, serials, templates, labels, tags);
+        return population::settle(Answer::Done, next + 1, live);
     }
     fork(
         m,
         k,
-        live - 1,
+        last,
         next,
         y,
         first,
@@ -338,35 +286,37 @@ fn advance<'a>(
         labels,
         tags,
     );
-    finished(next + 2, live + 1)
+    population::settle(Answer::Done, next + 2, live + 1)
 }
 
-// The step of the process at place k.
+// The step of the process at place k. A row of more than 32 identifiers means a bad state, whose tags have no places.
 fn step_at<'a>(
-    row: &'a [u32; 514],
+    row: &'a [u32; WORDS],
     next: u32,
-    live: usize,
+    live: u32,
     k: usize,
     branch: u32,
     serials: &'a mut [u32; 128],
-    templates: &'a mut [u8; 128],
+    templates: &'a mut [u32; 128],
     labels: &'a mut [u32; 128],
     tags: &'a mut [u32; 4096],
-) -> Stepped
-    requires { let c = cells (now serials) (now templates) (now labels) (now tags) in
-        ⌜ (wellFormed boxLimits (machineFrom (planFor (now row)) next live c) ≡ true) × (k < live) ⌝ }
+) -> Settled
+    requires { ⌜ (k < live) × (live ≤ 128) ⌝ }
     ensures { λ r.
         let plan = planFor (now (row .entry)) in
         let c = cells (now (serials .entry)) (now (templates .entry)) (now (labels .entry)) (now (tags .entry)) in
         let d = cells (now (serials .exit)) (now (templates .exit)) (now (labels .exit)) (now (tags .exit)) in
-        ⌜ Did plan next live c (r .answer) (r .next) (r .live) d (stepBy boxLimits (machineFrom plan next live c) (getD (c .serials) k 0) branch (some (placed (plan .identifiers) c k))) ⌝ }
+        ⌜ SteppedAt plan next live c k branch r d ⌝ }
 {
-    let m = row[1];
+    let m = planrow::identifier_count(row);
+    if 32 < m {
+        return population::settle(Answer::Refused(population::BAD_STATE), next, live);
+    }
     let t = planrow::template_at(row, templates[k]);
     let form = t.form;
     let heirs = children_of(form, branch);
-    let first = planrow::template_at(row, heirs.first);
-    let second = planrow::template_at(row, heirs.second);
+    let first = planrow::template_at(row, heirs.first as u32);
+    let second = planrow::template_at(row, heirs.second as u32);
     let number = refusal(
         m,
         next,
@@ -379,7 +329,7 @@ fn step_at<'a>(
         second,
     );
     if number != 0 {
-        return refused(number, next, live);
+        return population::settle(Answer::Refused(number), next, live);
     }
     advance(
         m,
@@ -396,30 +346,28 @@ fn step_at<'a>(
     )
 }
 
-// Document 01, Step: 20, 21, then 22 to 25 for the process found.
-pub fn step<'a>(
-    row: &'a [u32; 514],
+// Document 01, Step: 21, then 22 to 25 for the process found.
+pub fn attempt<'a>(
+    row: &'a [u32; WORDS],
     next: u32,
-    live: usize,
+    live: u32,
     serials: &'a mut [u32; 128],
-    templates: &'a mut [u8; 128],
+    templates: &'a mut [u32; 128],
     labels: &'a mut [u32; 128],
     tags: &'a mut [u32; 4096],
     serial: u32,
     branch: u32,
-) -> Stepped
+) -> Settled
     ensures { λ r.
         let plan = planFor (now (row .entry)) in
         let c = cells (now (serials .entry)) (now (templates .entry)) (now (labels .entry)) (now (tags .entry)) in
         let d = cells (now (serials .exit)) (now (templates .exit)) (now (labels .exit)) (now (tags .exit)) in
-        ⌜ Did plan next live c (r .answer) (r .next) (r .live) d (run boxLimits (machineFrom plan next live c) (step serial branch)) ⌝ }
+        ⌜ Tried plan next live c (step serial branch) r d ⌝ }
 {
-    if !population::is_well_formed(row, next, live, serials, templates, labels, tags) {
-        return refused(population::BAD_STATE, next, live);
-    }
-    let k = arrays::place_of(serials, live, serial);
-    if live <= k {
-        return refused(population::NOT_LIVE, next, live);
+    let n = arrays::index(live);
+    let k = arrays::place_of(serials, 0, live, serial);
+    if n <= k {
+        return population::settle(Answer::Refused(population::NOT_LIVE), next, live);
     }
     step_at(row, next, live, k, branch, serials, templates, labels, tags)
 }

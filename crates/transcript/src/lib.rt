@@ -56,7 +56,7 @@ fn print_tags(tags: &[u32], from: usize, to: usize) {
     }
 }
 
-fn print_process(state: State, place: usize) {
+fn print_process(state: State, place: u32) {
     let plan = state.plan;
     let m = plan.identifiers;
     if 32 < m {
@@ -65,17 +65,18 @@ fn print_process(state: State, place: usize) {
     if 128 <= place {
         return;
     }
+    let k = arrays::index(place);
     console::print(b"serial=");
-    console::print_word(state.serials[place]);
+    console::print_word(state.serials[k]);
     console::print(b" template=");
-    console::print_byte(state.templates[place]);
+    console::print_word(state.templates[k]);
     console::print(b" label=");
-    console::print_hex_word(state.labels[place]);
+    console::print_hex_word(state.labels[k]);
     console::print(b" tags=");
     print_tags(
         &state.tags,
-        arrays::row_start(place as u32, m),
-        arrays::row_start(place as u32 + 1, m),
+        arrays::row_start(place, m),
+        arrays::row_start(place + 1, m),
     );
     console::print(b"\n");
 }
@@ -86,7 +87,7 @@ fn print_state(state: State) {
     console::print(b" live=");
     console::print_number(state.live as u64);
     console::print(b"\n");
-    let mut place = 0;
+    let mut place: u32 = 0;
     while place < state.live {
         print_process(state, place);
         place += 1;

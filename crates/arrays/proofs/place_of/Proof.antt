@@ -1,74 +1,96 @@
--- No place that the loop passed has the serial; the measure is how many are left. Past the end stands 0.
-use Prim.Native.Nat.{_-_, _≤_}
-use mathlib.Core.Path.{_≡_}
-use mathlib.Core.Bool.{false}
-use native.Mathlib.Omega.{arith}
-use lib.Dec.{eqb}
-use lib.ListN.{getD}
-use borrow.Author.Tests.{eq-eqb, ne-eqb}
+-- Those below the serial are counted, and the next one is compared.
 use borrow.Author.Needs.{needs}
-use Rattle.lists.specs.Numbers.{any}
-use Rattle.lists.proofs.Every.{any-none, any-more}
-use Rattle.lists.proofs.Lowest.{lowest-hit}
-use Rattle.arrays.proofs.Loops.{place-zero, place-none}
+use Rattle.arrays.proofs.Ranges.{located-out, located-there, located-past, located-place, located-found, located-none}
 use Rattle.arrays.proofs.place_of.Statement.{statement}
 use Rattle.arrays.proofs.place_of.Tie as tie
 
-abbrev Inv-loop : tie.InvT-loop
-Inv-loop serials n serial end i₀ i = (i ≤ end) × (any i (λ k. eqb (getD serials k 0) serial) ≡ false)
+index-requires : tie.Need-index-requires
+index-requires c κs = search needs
 
-abbrev μ-loop : tie.MeasureT-loop
-μ-loop serials n serial end i₀ i = end - i
+is-within-requires : tie.Need-is-within-requires
+is-within-requires c κs = search needs
 
-least-requires : tie.Need-least-requires Inv-loop μ-loop
-least-requires c κs = search needs
+returns : tie.Need-returns
+returns c =
+    let tested = c in
+    let asked = tested .before in
+    let all = asked .before in
+    let xs = all .before .before .args .xs .now in
+    located-out xs _ _ _ _ (all .index .ensures) _ (asked .is-within .ensures) (tested .if1 .taken)
 
-loop-holds : tie.Need-loop-holds Inv-loop μ-loop
-loop-holds c = (search needs, any-none _)
+count-below-requires : tie.Need-count-below-requires
+count-below-requires c κs =
+    let tested = c in
+    let asked = tested .before in
+    let all = asked .before in
+    let xs = all .before .before .args .xs .now in
+    located-there xs _ _ 0 _ (all .index .ensures) _ (asked .is-within .ensures) (tested .if1 .left)
 
-mul-if1 : tie.Need-mul-if1 Inv-loop μ-loop
-mul-if1 c = search needs
+index-requires-2 : tie.Need-index-requires-2
+index-requires-2 c κs = search needs
 
-shared-slice-read-if1 : tie.Need-shared-slice-read-if1 Inv-loop μ-loop
-shared-slice-read-if1 c = search needs
-
-returns : tie.Need-returns Inv-loop μ-loop
-returns c = let b = c .before .before .before in lowest-hit _ _ (b .loop .i) (search needs) (b .loop .inv .1) (eq-eqb _ _ (c .if1 .taken))
-
-add-i : tie.Need-add-i Inv-loop μ-loop
-add-i c = search needs
-
-loop-less : tie.Need-loop-less Inv-loop μ-loop
-loop-less c = search needs
-
-loop-again : tie.Need-loop-again Inv-loop μ-loop
-loop-again c = (search needs, any-more _ _ (c .before .before .before .loop .inv .1) (ne-eqb _ _ (c .if1 .left)))
-
-returns-2 : tie.Need-returns-2 Inv-loop μ-loop
+returns-2 : tie.Need-returns-2
 returns-2 c =
-    let ended = c .before .before in
-    let e : ended .loop .i ≡ ended .before .least .result = omega arith in
-    place-zero (ended .before .before .before .args .serials .now) _ _ _ (ended .before .least .ensures .0) (rw e at (ended .loop .inv .1)) (c .if2 .taken)
+    let tested = c .before .before .before in
+    let asked = tested .before in
+    let all = asked .before in
+    let xs = all .before .before .args .xs .now in
+    located-past xs _ _ _ _ (all .index .ensures) _ (asked .is-within .ensures) (tested .if1 .left) _ _ (c .before .index2 .ensures) (c .before .before .count-below .ensures) (c .if2 .taken)
 
-returns-3 : tie.Need-returns-3 Inv-loop μ-loop
+add-if3 : tie.Need-add-if3
+add-if3 c =
+    let tested = c .before .before .before in
+    let asked = tested .before in
+    let all = asked .before in
+    let xs = all .before .before .args .xs .now in
+    let q = located-place xs _ _ _ _ (all .index .ensures) _ (asked .is-within .ensures) (tested .if1 .left) _ _ (c .before .index2 .ensures) (c .before .before .count-below .ensures) (c .if2 .left) in
+    search (q, needs)
+
+mul-if3 : tie.Need-mul-if3
+mul-if3 c =
+    let tested = c .before .before .before in
+    let asked = tested .before in
+    let all = asked .before in
+    let xs = all .before .before .args .xs .now in
+    let q = located-place xs _ _ _ _ (all .index .ensures) _ (asked .is-within .ensures) (tested .if1 .left) _ _ (c .before .index2 .ensures) (c .before .before .count-below .ensures) (c .if2 .left) in
+    search (q, needs)
+
+shared-slice-read-if3 : tie.Need-shared-slice-read-if3
+shared-slice-read-if3 c =
+    let tested = c .before .before .before .before in
+    let asked = tested .before in
+    let all = asked .before in
+    let xs = all .before .before .args .xs .now in
+    located-place xs _ _ _ _ (all .index .ensures) _ (asked .is-within .ensures) (tested .if1 .left) _ _ (c .before .before .index2 .ensures) (c .before .before .before .count-below .ensures) (c .before .if2 .left)
+
+returns-3 : tie.Need-returns-3
 returns-3 c =
-    let ended = c .before .before in
-    let e : ended .loop .i ≡ ended .before .least .result = omega arith in
-    place-none (ended .before .before .before .args .serials .now) _ _ _ (ended .before .least .ensures .0) (rw e at (ended .loop .inv .1)) (c .if2 .left)
+    let tested = c .before .before .before .before .before in
+    let asked = tested .before in
+    let all = asked .before in
+    let xs = all .before .before .args .xs .now in
+    located-found xs _ _ _ _ (all .index .ensures) _ (asked .is-within .ensures) (tested .if1 .left) _ _ (c .before .before .before .index2 .ensures) (c .before .before .before .before .count-below .ensures) (c .before .before .if2 .left) (c .if3 .taken)
+
+returns-4 : tie.Need-returns-4
+returns-4 c =
+    let tested = c .before .before .before .before .before in
+    let asked = tested .before in
+    let all = asked .before in
+    let xs = all .before .before .args .xs .now in
+    located-none xs _ _ _ _ (all .index .ensures) _ (asked .is-within .ensures) (tested .if1 .left) _ _ (c .before .before .before .index2 .ensures) (c .before .before .before .before .count-below .ensures) (c .before .before .if2 .left) (c .if3 .left)
 
 pub place-of-spec : {M : Type 1} → statement M
 place-of-spec =
     tie.close
     (tie.spec
-    Inv-loop
-    μ-loop
-    least-requires
-    loop-holds
-    mul-if1
-    shared-slice-read-if1
+    index-requires
+    is-within-requires
     returns
-    add-i
-    loop-less
-    loop-again
+    count-below-requires
+    index-requires-2
     returns-2
-    returns-3)
+    add-if3
+    mul-if3
+    shared-slice-read-if3
+    returns-3
+    returns-4)

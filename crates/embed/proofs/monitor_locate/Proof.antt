@@ -10,12 +10,12 @@ locate-requires c κs = search needs
 text-number-requires : tie.Need-text-number-requires
 text-number-requires c κs = search needs
 
-wide-requires : tie.Need-wide-requires
-wide-requires c κs = search needs
+index-requires : tie.Need-index-requires
+index-requires c κs = search needs
 
 returns : tie.Need-returns
 returns c = search part-words
 
 pub monitor-locate-spec : {M : Type 1} → statement M
 monitor-locate-spec =
-    tie.close (tie.spec locate-requires text-number-requires wide-requires returns)
+    tie.close (tie.spec locate-requires text-number-requires index-requires returns)

@@ -1,6 +1,6 @@
 -- Every answer is 20 where the row means no plan; else what the calls on the lent row and arrays left, its place stored.
 use borrow.Author.Needs.{needs}
-use Rattle.embed.proofs.Answered.{run-none, run-means, run-few, runs-some}
+use Rattle.embed.proofs.Answered.{run-none, run-means, runs-some}
 use Rattle.embed.proofs.monitor_run.Statement.{statement}
 use Rattle.embed.proofs.monitor_run.Tie as tie
 
@@ -22,14 +22,8 @@ element-copy-out-next c = search needs
 element-copy-out-live : tie.Need-element-copy-out-live
 element-copy-out-live c = search needs
 
-wide-requires : tie.Need-wide-requires
-wide-requires c κs = search needs
-
 run-calls-requires : tie.Need-run-calls-requires
 run-calls-requires c κs = search needs
-
-narrow-requires : tie.Need-narrow-requires
-narrow-requires c κs = search run-few
 
 store-requires : tie.Need-store-requires
 store-requires c κs = search needs
@@ -39,11 +33,10 @@ same-length-2 c = search needs
 
 returns-2 : tie.Need-returns-2
 returns-2 c =
-    let at-run = c .before .before .before .before .before in
-    let at-wide = at-run .before .before .before .before .before .before in
-    let at-if = at-wide .before .before .before in
-    runs-some _ _ (run-means _ _ (at-if .before .is-plan .ensures) (at-if .if1 .left)) _ _ _ _ _ _ _ _ _ _ _ _ (c .store .ensures) (at-wide .wide .ensures .0)
-    (c .before .narrow .ensures) (at-run .run-calls .ensures .0) (at-run .run-calls .ensures .1)
+    let at-run = c .before .before .before .before in
+    let at-if = at-run .before .before .before .before .before .before .before .before in
+    runs-some _ _ (run-means _ _ (at-if .before .is-plan .ensures) (at-if .if1 .left)) _ _ _ _ _ _ _ _ _ _ (c .store .ensures)
+    (at-run .run-calls .ensures .0) (at-run .run-calls .ensures .1)
 
 pub monitor-run-spec : {M : Type 1} → statement M
 monitor-run-spec =
@@ -55,9 +48,7 @@ monitor-run-spec =
     returns
     element-copy-out-next
     element-copy-out-live
-    wide-requires
     run-calls-requires
-    narrow-requires
     store-requires
     same-length-2
     returns-2)

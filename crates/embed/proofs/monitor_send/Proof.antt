@@ -1,38 +1,15 @@
--- The answer of the send on the lent row and arrays.
+-- The call whose kind it is.
 use borrow.Author.Needs.{needs}
-use Rattle.embed.proofs.Answered.{answers-send}
+use Rattle.machine.specs.State.{callOf}
 use Rattle.embed.proofs.monitor_send.Statement.{statement}
 use Rattle.embed.proofs.monitor_send.Tie as tie
 
-element-copy-out-next : tie.Need-element-copy-out-next
-element-copy-out-next c = search needs
-
-element-copy-out-live : tie.Need-element-copy-out-live
-element-copy-out-live c = search needs
-
-wide-requires : tie.Need-wide-requires
-wide-requires c κs = search needs
-
-send-requires : tie.Need-send-requires
-send-requires c κs = search needs
-
-code-of-requires : tie.Need-code-of-requires
-code-of-requires c κs = search needs
-
-cast-result : tie.Need-cast-result
-cast-result c = search needs
+call-requires : tie.Need-call-requires
+call-requires c κs = search needs
 
 returns : tie.Need-returns
-returns c = search answers-send
+unfolding callOf
+returns c = c .call .ensures
 
 pub monitor-send-spec : {M : Type 1} → statement M
-monitor-send-spec =
-    tie.close
-    (tie.spec
-    element-copy-out-next
-    element-copy-out-live
-    wide-requires
-    send-requires
-    code-of-requires
-    cast-result
-    returns)
+monitor-send-spec = tie.close (tie.spec call-requires returns)

@@ -1,5 +1,5 @@
 -- By the number.
-use Rattle.planrow.proofs.Rows.{form-end, form-go, form-either, form-both}
+use Rattle.planrow.proofs.Reading.{form-end, form-go, form-either, form-both}
 use Rattle.planrow.proofs.form_of.Statement.{statement}
 use Rattle.planrow.proofs.form_of.Tie as tie
 

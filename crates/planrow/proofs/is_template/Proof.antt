@@ -1,5 +1,5 @@
 -- The definition, test by test.
-use Rattle.planrow.proofs.Rows.{template-tested}
+use Rattle.planrow.proofs.Reading.{template-tested}
 use borrow.Author.Needs.{needs}
 use Rattle.planrow.proofs.is_template.Statement.{statement}
 use Rattle.planrow.proofs.is_template.Tie as tie

@@ -6,14 +6,15 @@ use lib.ListN.{getD, length, length-set}
 use borrow.Author.Needs.{needs}
 use Rattle.lists.specs.Writes.{written}
 use Rattle.lists.proofs.Written.{written-none, written-more}
+use Rattle.planrow.specs.Row.{width}
 use Rattle.planrow.proofs.put_words.Statement.{statement}
 use Rattle.planrow.proofs.put_words.Tie as tie
 
 abbrev Inv-loop : tie.InvT-loop
-Inv-loop row₀ at words k₀ row k = (k ≤ 8) × (length row ≡ length row₀) × ((j : ℕ) → getD row j 0 ≡ written row₀ at k (λ i. getD words i 0) j)
+Inv-loop row₀ at words k₀ row k = (k ≤ width) × (length row ≡ length row₀) × ((j : ℕ) → getD row j 0 ≡ written row₀ at k (λ i. getD words i 0) j)
 
 abbrev μ-loop : tie.MeasureT-loop
-μ-loop row₀ at words k₀ row k = 8 - k
+μ-loop row₀ at words k₀ row k = width - k
 
 loop-holds : tie.Need-loop-holds Inv-loop μ-loop
 loop-holds c = (search needs, refl, written-none _ _ _)
@@ -46,7 +47,7 @@ same-length : tie.Need-same-length Inv-loop μ-loop
 same-length c = search needs
 
 returns : tie.Need-returns Inv-loop μ-loop
-returns c = let e : c .before .loop .k ≡ 8 = omega arith in rw e at (c .before .loop .inv .2)
+returns c = let e : c .before .loop .k ≡ width = omega arith in rw e at (c .before .loop .inv .2)
 
 pub put-words-spec : {M : Type 1} → statement M
 put-words-spec =

@@ -3,7 +3,7 @@ use Prim.Native.Nat.{_-_}
 use borrow.Author.Needs.{needs}
 use Rattle.lists.proofs.Length.{length-into}
 use Rattle.plan.specs.Plan.{at}
-use Rattle.planrow.proofs.Rows.{Writing, writing-none, writing-room, writing-more, writing-all}
+use Rattle.planrow.proofs.Writing.{Writing, writing-none, writing-room, writing-more, writing-all}
 use Rattle.planrow.proofs.row_of.Statement.{statement}
 use Rattle.planrow.proofs.row_of.Tie as tie
 
@@ -16,11 +16,11 @@ abbrev μ-loop : tie.MeasureT-loop
 count-word-requires : tie.Need-count-word-requires Inv-loop μ-loop
 count-word-requires c κs = search needs
 
-array-write-row : tie.Need-array-write-row Inv-loop μ-loop
-array-write-row c = search needs
+array-write-out : tie.Need-array-write-out Inv-loop μ-loop
+array-write-out c = search needs
 
-array-write-row-2 : tie.Need-array-write-row-2 Inv-loop μ-loop
-array-write-row-2 c = search needs
+array-write-out-2 : tie.Need-array-write-out-2 Inv-loop μ-loop
+array-write-out-2 c = search needs
 
 capped-requires : tie.Need-capped-requires Inv-loop μ-loop
 capped-requires c κs = search needs
@@ -72,8 +72,8 @@ row-of-spec =
     Inv-loop
     μ-loop
     count-word-requires
-    array-write-row
-    array-write-row-2
+    array-write-out
+    array-write-out-2
     capped-requires
     cast-n
     loop-holds

@@ -1,5 +1,5 @@
 -- Word by word.
-use Rattle.planrow.proofs.Rows.{template-whole, first-byte, second-byte}
+use Rattle.planrow.proofs.Reading.{template-whole, first-byte, second-byte}
 use borrow.Author.Needs.{needs}
 use Rattle.planrow.proofs.template_in.Statement.{statement}
 use Rattle.planrow.proofs.template_in.Tie as tie

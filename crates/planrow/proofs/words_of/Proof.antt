@@ -1,5 +1,5 @@
 -- The form's words, and the rest as they stand.
-use Rattle.planrow.proofs.Rows.{words-whole}
+use Rattle.planrow.proofs.Writing.{words-whole}
 use borrow.Author.Needs.{needs}
 use Rattle.planrow.proofs.words_of.Statement.{statement}
 use Rattle.planrow.proofs.words_of.Tie as tie

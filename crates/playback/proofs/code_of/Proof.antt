@@ -1,6 +1,6 @@
 -- In each arm the answer is that arm's variant.
 use mathlib.Core.Path.{sym, ap}
-use Rattle.promise.specs.Replay.{codeOf}
+use Rattle.machine.specs.State.{codeOf}
 use borrow.Author.Needs.{needs}
 use Rattle.playback.proofs.code_of.Statement.{statement}
 use Rattle.playback.proofs.code_of.Tie as tie

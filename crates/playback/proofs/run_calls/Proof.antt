@@ -5,7 +5,7 @@ use borrow.Author.Needs.{needs}
 use Rattle.machine.specs.State.{machineFrom}
 use Rattle.planrow.specs.Lookup.{planFor}
 use Rattle.population.specs.Arrays.{cells}
-use Rattle.playback.proofs.Runs.{callAt, Stands, stands-none, stands-more, played}
+use Rattle.playback.proofs.Runs.{callAt, Stands, stands-none, stands-on, played}
 use Rattle.playback.proofs.run_calls.Statement.{statement}
 use Rattle.playback.proofs.run_calls.Tie as tie
 
@@ -24,41 +24,44 @@ call-count-requires c κs = search needs
 loop-holds : tie.Need-loop-holds Inv-loop μ-loop
 loop-holds c = stands-none _ _ _ _
 
-mul-take-call : tie.Need-mul-take-call Inv-loop μ-loop
-mul-take-call c = search needs
+mul-run-call : tie.Need-mul-run-call Inv-loop μ-loop
+mul-run-call c = search needs
 
-mul-take-call-2 : tie.Need-mul-take-call-2 Inv-loop μ-loop
-mul-take-call-2 c = search needs
+mul-run-call-2 : tie.Need-mul-run-call-2 Inv-loop μ-loop
+mul-run-call-2 c = search needs
 
-shared-slice-read-take-call : tie.Need-shared-slice-read-take-call Inv-loop μ-loop
-shared-slice-read-take-call c = search needs
+shared-slice-read-run-call : tie.Need-shared-slice-read-run-call Inv-loop μ-loop
+shared-slice-read-run-call c = search needs
 
-mul-take-call-3 : tie.Need-mul-take-call-3 Inv-loop μ-loop
-mul-take-call-3 c = search needs
+mul-run-call-3 : tie.Need-mul-run-call-3 Inv-loop μ-loop
+mul-run-call-3 c = search needs
 
-add-take-call : tie.Need-add-take-call Inv-loop μ-loop
-add-take-call c = search needs
+add-run-call : tie.Need-add-run-call Inv-loop μ-loop
+add-run-call c = search needs
 
-mul-take-call-4 : tie.Need-mul-take-call-4 Inv-loop μ-loop
-mul-take-call-4 c = search needs
+mul-run-call-4 : tie.Need-mul-run-call-4 Inv-loop μ-loop
+mul-run-call-4 c = search needs
 
-shared-slice-read-take-call-2 : tie.Need-shared-slice-read-take-call-2 Inv-loop μ-loop
-shared-slice-read-take-call-2 c = search needs
+shared-slice-read-run-call-2 : tie.Need-shared-slice-read-run-call-2 Inv-loop μ-loop
+shared-slice-read-run-call-2 c = search needs
 
-mul-take-call-5 : tie.Need-mul-take-call-5 Inv-loop μ-loop
-mul-take-call-5 c = search needs
+mul-run-call-5 : tie.Need-mul-run-call-5 Inv-loop μ-loop
+mul-run-call-5 c = search needs
 
-add-take-call-2 : tie.Need-add-take-call-2 Inv-loop μ-loop
-add-take-call-2 c = search needs
+add-run-call-2 : tie.Need-add-run-call-2 Inv-loop μ-loop
+add-run-call-2 c = search needs
 
-mul-take-call-6 : tie.Need-mul-take-call-6 Inv-loop μ-loop
-mul-take-call-6 c = search needs
+mul-run-call-6 : tie.Need-mul-run-call-6 Inv-loop μ-loop
+mul-run-call-6 c = search needs
 
-shared-slice-read-take-call-3 : tie.Need-shared-slice-read-take-call-3 Inv-loop μ-loop
-shared-slice-read-take-call-3 c = search needs
+shared-slice-read-run-call-3 : tie.Need-shared-slice-read-run-call-3 Inv-loop μ-loop
+shared-slice-read-run-call-3 c = search needs
 
-take-call-requires : tie.Need-take-call-requires Inv-loop μ-loop
-take-call-requires c κs = search needs
+run-call-requires : tie.Need-run-call-requires Inv-loop μ-loop
+run-call-requires c κs = search needs
+
+code-of-requires : tie.Need-code-of-requires Inv-loop μ-loop
+code-of-requires c κs = search needs
 
 slice-write-answers : tie.Need-slice-write-answers Inv-loop μ-loop
 slice-write-answers c = search needs
@@ -70,7 +73,7 @@ loop-less : tie.Need-loop-less Inv-loop μ-loop
 loop-less c = search needs
 
 loop-again : tie.Need-loop-again Inv-loop μ-loop
-loop-again c = search (stands-more, needs)
+loop-again c = search (stands-on, needs)
 
 same-length : tie.Need-same-length Inv-loop μ-loop
 same-length c = search needs
@@ -86,18 +89,19 @@ run-calls-spec =
     μ-loop
     call-count-requires
     loop-holds
-    mul-take-call
-    mul-take-call-2
-    shared-slice-read-take-call
-    mul-take-call-3
-    add-take-call
-    mul-take-call-4
-    shared-slice-read-take-call-2
-    mul-take-call-5
-    add-take-call-2
-    mul-take-call-6
-    shared-slice-read-take-call-3
-    take-call-requires
+    mul-run-call
+    mul-run-call-2
+    shared-slice-read-run-call
+    mul-run-call-3
+    add-run-call
+    mul-run-call-4
+    shared-slice-read-run-call-2
+    mul-run-call-5
+    add-run-call-2
+    mul-run-call-6
+    shared-slice-read-run-call-3
+    run-call-requires
+    code-of-requires
     slice-write-answers
     add-i
     loop-less

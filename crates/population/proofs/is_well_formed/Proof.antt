@@ -1,45 +1,38 @@
--- The definition, in the arrays' terms.
+-- The plan's part, then the processes'.
 use borrow.Author.Needs.{needs}
-use Rattle.population.proofs.RowFits.{fit-identifiers, fit-count, bad-plan, bad-many, fit-arrays}
+use Rattle.population.proofs.Fits.{bad-plan, fit-arrays}
 use Rattle.population.proofs.is_well_formed.Statement.{statement}
 use Rattle.population.proofs.is_well_formed.Tie as tie
 
-plan-fits-requires : tie.Need-plan-fits-requires
-plan-fits-requires c κs = search needs
+is-fitting-requires : tie.Need-is-fitting-requires
+is-fitting-requires c κs = search needs
 
 returns : tie.Need-returns
-returns c = bad-plan _ _ (c .before .plan-fits .ensures) _ _ _ (c .before .before .fits .next) (c .if1 .taken)
+returns c = bad-plan _ _ (c .before .is-fitting .ensures) _ _ _ (c .before .before .fits .next) (c .if1 .taken)
+
+template-count-requires : tie.Need-template-count-requires
+template-count-requires c κs = search needs
+
+identifier-count-requires : tie.Need-identifier-count-requires
+identifier-count-requires c κs = search needs
+
+are-fitting-requires : tie.Need-are-fitting-requires
+are-fitting-requires c κs = search needs
 
 returns-2 : tie.Need-returns-2
-returns-2 c = let plan = c .before in bad-many _ _ (plan .before .plan-fits .ensures) _ _ _ (plan .before .before .fits .next) (plan .if1 .left) (c .if2 .taken)
-
-element-copy-out-n : tie.Need-element-copy-out-n
-element-copy-out-n c = search needs
-
-element-copy-out-m : tie.Need-element-copy-out-m
-element-copy-out-m c = search needs
-
-cast-arrays-fit : tie.Need-cast-arrays-fit
-cast-arrays-fit c = search fit-count
-
-arrays-fit-requires : tie.Need-arrays-fit-requires
-arrays-fit-requires c κs = (search needs, search fit-identifiers)
-
-returns-3 : tie.Need-returns-3
-returns-3 c =
-    let many = c .before .before .before in
-    let plan = many .before in
-    fit-arrays _ _ (plan .before .plan-fits .ensures) _ _ _ (plan .before .before .fits .next) (plan .if1 .left) (many .if2 .left) _ (c .arrays-fit .ensures)
+returns-2 c =
+    let counted = c .before .before .before .before .before in
+    let plan = counted .before .before in
+    fit-arrays _ _ (plan .before .is-fitting .ensures) _ _ _ (plan .before .before .fits .next) (plan .if1 .left) _ _ (counted .before .template-count .ensures) (counted .identifier-count .ensures)
+    (record { serials = search needs; templates = search needs; labels = search needs; tags = search needs }) _ (c .are-fitting .ensures)
 
 pub is-well-formed-spec : {M : Type 1} → statement M
 is-well-formed-spec =
     tie.close
     (tie.spec
-    plan-fits-requires
+    is-fitting-requires
     returns
-    returns-2
-    element-copy-out-n
-    element-copy-out-m
-    cast-arrays-fit
-    arrays-fit-requires
-    returns-3)
+    template-count-requires
+    identifier-count-requires
+    are-fitting-requires
+    returns-2)

@@ -4,50 +4,57 @@ use Rattle.stepping.proofs.Moves.{advanced-none, advanced-one, advanced
 use Rattle.stepping.proofs.advance.Statement.{statement}
 use Rattle.stepping.proofs.advance.Tie as tie
 
-sub-leave : tie.Need-sub-leave
-sub-leave c = search needs
+cast-y : tie.Need-cast-y
+cast-y c = search needs
+
+cast-z : tie.Need-cast-z
+cast-z c = search needs
+
+sub-index : tie.Need-sub-index
+sub-index c = search needs
+
+index-requires : tie.Need-index-requires
+index-requires c κs = search needs
 
 leave-requires : tie.Need-leave-requires
 leave-requires c κs = search needs
 
-sub-finished : tie.Need-sub-finished
-sub-finished c = search needs
+sub-settle : tie.Need-sub-settle
+sub-settle c = search needs
 
-finished-requires : tie.Need-finished-requires
-finished-requires c κs = search needs
+settle-requires : tie.Need-settle-requires
+settle-requires c κs = search needs
 
 returns : tie.Need-returns
 returns c = search advanced-none
 
-sub-replace : tie.Need-sub-replace
-sub-replace c = search needs
-
 replace-requires : tie.Need-replace-requires
 replace-requires c κs = search needs
 
-add-finished : tie.Need-add-finished
-add-finished c = search needs
+add-settle : tie.Need-add-settle
+add-settle c = search needs
 
-finished-requires-2 : tie.Need-finished-requires-2
-finished-requires-2 c κs = search needs
+settle-requires-2 : tie.Need-settle-requires-2
+settle-requires-2 c κs = search needs
 
 returns-2 : tie.Need-returns-2
 returns-2 c = search advanced-one
 
-sub-fork : tie.Need-sub-fork
-sub-fork c = search needs
-
 fork-requires : tie.Need-fork-requires
-fork-requires c κs = fork-room _ _ _ _ _ (c .before .before .before .before .before .before .before .before .pre) (c .before .before .before .before .before .before .if1 .left) (c .before .before .before .before .if2 .left)
+fork-requires c κs =
+    let tested = c .before .before .before .before in
+    let lone = tested .before .before in
+    let last = lone .before .before in
+    fork-room _ _ _ _ _ _ (last .before .before .before .pre) (lone .if1 .left) (tested .if2 .left) (last .index .ensures)
 
-add-finished-2 : tie.Need-add-finished-2
-add-finished-2 c = search fork-serials
+add-settle-2 : tie.Need-add-settle-2
+add-settle-2 c = search fork-serials
 
-add-finished-3 : tie.Need-add-finished-3
-add-finished-3 c = search needs
+add-settle-3 : tie.Need-add-settle-3
+add-settle-3 c = search needs
 
-finished-requires-3 : tie.Need-finished-requires-3
-finished-requires-3 c κs = search needs
+settle-requires-3 : tie.Need-settle-requires-3
+settle-requires-3 c κs = search needs
 
 returns-3 : tie.Need-returns-3
 returns-3 c = search advanced-two
@@ -56,19 +63,20 @@ pub advance-spec : {M : Type 1} → statement M
 advance-spec =
     tie.close
     (tie.spec
-    sub-leave
+    cast-y
+    cast-z
+    sub-index
+    index-requires
     leave-requires
-    sub-finished
-    finished-requires
+    sub-settle
+    settle-requires
     returns
-    sub-replace
     replace-requires
-    add-finished
-    finished-requires-2
+    add-settle
+    settle-requires-2
     returns-2
-    sub-fork
     fork-requires
-    add-finished-2
-    add-finished-3
-    finished-requires-3
+    add-settle-2
+    add-settle-3
+    settle-requires-3
     returns-3)

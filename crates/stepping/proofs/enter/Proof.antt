@@ -7,11 +7,11 @@ use Rattle.stepping.proofs.enter.Tie as tie
 put-requires : tie.Need-put-requires
 put-requires c κs = search needs
 
-put-u8-requires : tie.Need-put-u8-requires
-put-u8-requires c κs = search needs
-
 put-requires-2 : tie.Need-put-requires-2
 put-requires-2 c κs = search needs
+
+put-requires-3 : tie.Need-put-requires-3
+put-requires-3 c κs = search needs
 
 cast-row-start : tie.Need-cast-row-start
 cast-row-start c = search needs
@@ -29,15 +29,15 @@ returns c =
     let serials = templates .before .before in
     let b = serials .before .before in
     entered-processes _ _ _ _ _ _ _ _ (b .args .serials .now) (b .args .templates .now) (b .args .labels .now) _ _ _ _ _ (b .pre .0) (b .pre .1) (search needs) (search needs) (search needs)
-    (c .before .before .row-start .ensures) (serials .put .ensures) (templates .put-u8 .ensures) (labels .put2 .ensures) (c .write-row .ensures)
+    (c .before .before .row-start .ensures) (serials .put .ensures) (templates .put2 .ensures) (labels .put3 .ensures) (c .write-row .ensures)
 
 pub enter-spec : {M : Type 1} → statement M
 enter-spec =
     tie.close
     (tie.spec
     put-requires
-    put-u8-requires
     put-requires-2
+    put-requires-3
     cast-row-start
     row-start-requires
     write-row-requires

@@ -7,11 +7,11 @@ use Rattle.stepping.proofs.leave.Tie as tie
 shift-requires : tie.Need-shift-requires
 shift-requires c κs = search needs
 
-shift-u8-requires : tie.Need-shift-u8-requires
-shift-u8-requires c κs = search needs
-
 shift-requires-2 : tie.Need-shift-requires-2
 shift-requires-2 c κs = search needs
+
+shift-requires-3 : tie.Need-shift-requires-3
+shift-requires-3 c κs = search needs
 
 cast-row-start : tie.Need-cast-row-start
 cast-row-start c = search needs
@@ -25,8 +25,8 @@ cast-row-start-2 c = search needs
 row-start-requires-2 : tie.Need-row-start-requires-2
 row-start-requires-2 c κs = search needs
 
-shift-requires-3 : tie.Need-shift-requires-3
-shift-requires-3 c κs = search needs
+shift-requires-4 : tie.Need-shift-requires-4
+shift-requires-4 c κs = search needs
 
 returns : tie.Need-returns
 returns c =
@@ -36,19 +36,19 @@ returns c =
     let serials = templates .before .before in
     let b = serials .before .before in
     left-processes _ _ _ _ _ (b .args .serials .now) (b .args .templates .now) (b .args .labels .now) (b .args .tags .now) _ _ _ _ (b .pre .0) (b .pre .1) (b .pre .2)
-    (search needs) (search needs) (search needs) (c .before .shift-arg3 .given .0 .1) (rows .before .row-start .ensures) (rows .row-start2 .ensures)
-    (serials .shift .ensures) (templates .shift-u8 .ensures) (labels .shift2 .ensures) (c .shift3 .ensures)
+    (search needs) (search needs) (search needs) (c .before .shift-arg4 .given .0 .1) (rows .before .row-start .ensures) (rows .row-start2 .ensures)
+    (serials .shift .ensures) (templates .shift2 .ensures) (labels .shift3 .ensures) (c .shift4 .ensures)
 
 pub leave-spec : {M : Type 1} → statement M
 leave-spec =
     tie.close
     (tie.spec
     shift-requires
-    shift-u8-requires
     shift-requires-2
+    shift-requires-3
     cast-row-start
     row-start-requires
     cast-row-start-2
     row-start-requires-2
-    shift-requires-3
+    shift-requires-4
     returns)

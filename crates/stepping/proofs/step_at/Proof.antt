@@ -1,14 +1,24 @@
 -- The templates looked up are the plan's, their numbers being below N; then a refusal by its number, or the move.
 use borrow.Author.Needs.{needs}
-use Rattle.stepping.proofs.Steps.{at-place, at-offset, at-identifiers, place-refused, place-room, place-done}
+use Rattle.stepping.proofs.Refusals.{room-left}
+use Rattle.stepping.proofs.Steps.{place-wide, place-refused, place-done}
 use Rattle.stepping.proofs.step_at.Statement.{statement}
 use Rattle.stepping.proofs.step_at.Tie as tie
 
-element-copy-out-m : tie.Need-element-copy-out-m
-element-copy-out-m c = search needs
+identifier-count-requires : tie.Need-identifier-count-requires
+identifier-count-requires c κs = search needs
+
+settle-requires : tie.Need-settle-requires
+settle-requires c κs = search needs
+
+returns : tie.Need-returns
+returns c = search place-wide
+
+mul-template-at : tie.Need-mul-template-at
+mul-template-at c = search needs
 
 element-copy-out-template-at : tie.Need-element-copy-out-template-at
-element-copy-out-template-at c = search at-place
+element-copy-out-template-at c = search needs
 
 template-at-requires : tie.Need-template-at-requires
 template-at-requires c κs = search needs
@@ -16,63 +26,87 @@ template-at-requires c κs = search needs
 children-of-requires : tie.Need-children-of-requires
 children-of-requires c κs = search needs
 
+cast-template-at : tie.Need-cast-template-at
+cast-template-at c = search needs
+
 template-at-requires-2 : tie.Need-template-at-requires-2
 template-at-requires-2 c κs = search needs
+
+cast-template-at-2 : tie.Need-cast-template-at-2
+cast-template-at-2 c = search needs
 
 template-at-requires-3 : tie.Need-template-at-requires-3
 template-at-requires-3 c κs = search needs
 
 mul-refusal : tie.Need-mul-refusal
-mul-refusal c = search at-offset
+mul-refusal c = search needs
 
 element-copy-out-refusal : tie.Need-element-copy-out-refusal
-element-copy-out-refusal c = search at-place
+element-copy-out-refusal c = search needs
 
 refusal-requires : tie.Need-refusal-requires
-refusal-requires c κs = (search at-identifiers, search needs)
+refusal-requires c κs = search needs
 
-refused-requires : tie.Need-refused-requires
-refused-requires c κs = search needs
+settle-requires-2 : tie.Need-settle-requires-2
+settle-requires-2 c κs = search needs
 
-returns : tie.Need-returns
-returns c = search place-refused
+returns-2 : tie.Need-returns-2
+returns-2 c =
+    let asked = c .before .before in
+    let second = asked .before .before in
+    let first = second .before .before in
+    let made = first .before .before in
+    let looked = made .before in
+    let counted = looked .before .before .before in
+    let b = counted .before in
+    let heirs = made .children-of .ensures in
+    place-refused _ _ _ _ _ _ (b .pre .0) _ (counted .identifier-count .ensures) _ (looked .template-at .ensures) _ (heirs .0) (heirs .1) (heirs .2) (heirs .3)
+    _ _ (first .template-at2 .ensures) (second .template-at3 .ensures) _ (asked .refusal .ensures) _ (c .before .if2 .taken) (c .settle2 .ensures)
 
 advance-requires : tie.Need-advance-requires
 advance-requires c κs =
     let asked = c .before .before .before .before .before in
     let second = asked .before .before in
-    let made = second .before .before in
+    let first = second .before .before in
+    let made = first .before .before in
     let looked = made .before in
-    let b = looked .before .before .before in
+    let counted = looked .before .before .before in
+    let b = counted .before in
     let heirs = made .children-of .ensures in
-    place-room _ _ _ _ _ (b .pre .0) (b .pre .1) _ (looked .template-at .ensures) _ _ (heirs .0) (heirs .1) (heirs .2) (heirs .3)
-    _ _ (second .before .template-at2 .ensures) (second .template-at3 .ensures) _ (asked .refusal .ensures) (c .before .before .before .before .if1 .left)
+    room-left _ _ _ _ _ _ _ _ _ _ _ (asked .refusal .ensures) (c .before .before .before .before .if2 .left) (looked .before .before .if1 .left) (b .pre .0) (b .pre .1) (heirs .1)
 
-returns-2 : tie.Need-returns-2
-returns-2 c =
+returns-3 : tie.Need-returns-3
+returns-3 c =
     let asked = c .before .before .before .before .before .before in
     let second = asked .before .before in
-    let made = second .before .before in
+    let first = second .before .before in
+    let made = first .before .before in
     let looked = made .before in
-    let b = looked .before .before .before in
+    let counted = looked .before .before .before in
+    let b = counted .before in
     let heirs = made .children-of .ensures in
-    place-done _ _ _ _ _ (b .pre .0) (b .pre .1) _ (looked .template-at .ensures) _ _ (heirs .0) (heirs .1) (heirs .2) (heirs .3)
-    _ _ (second .before .template-at2 .ensures) (second .template-at3 .ensures) _ (asked .refusal .ensures) _ _ (c .before .before .before .before .before .if1 .left) (c .advance .ensures)
+    place-done _ _ _ _ _ _ (b .pre .0) _ (counted .identifier-count .ensures) _ (looked .template-at .ensures) _ (heirs .0) (heirs .1) (heirs .2) (heirs .3)
+    _ _ (first .template-at2 .ensures) (second .template-at3 .ensures) _ (asked .refusal .ensures) _ _ (c .before .before .before .before .before .if2 .left) (c .advance .ensures)
 
 pub step-at-spec : {M : Type 1} → statement M
 step-at-spec =
     tie.close
     (tie.spec
-    element-copy-out-m
+    identifier-count-requires
+    settle-requires
+    returns
+    mul-template-at
     element-copy-out-template-at
     template-at-requires
     children-of-requires
+    cast-template-at
     template-at-requires-2
+    cast-template-at-2
     template-at-requires-3
     mul-refusal
     element-copy-out-refusal
     refusal-requires
-    refused-requires
-    returns
+    settle-requires-2
+    returns-2
     advance-requires
-    returns-2)
+    returns-3)

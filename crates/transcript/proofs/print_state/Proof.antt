@@ -3,9 +3,6 @@ use Prim.Native.Nat.{_-_}
 use borrow.Author.Needs.{needs}
 use Rattle.transcript.proofs.print_state.Statement.{statement}
 use Rattle.transcript.proofs.print_state.Tie as tie
-use Rattle.console.proofs.print.Reads as print-reads
-use Rattle.console.proofs.print_number.Reads as print-number-reads
-use Rattle.transcript.proofs.print_process.Reads as print-process-reads
 
 abbrev Inv-loop : tie.InvT-loop
 Inv-loop state place₀ place = Unit {0}
@@ -30,6 +27,9 @@ slice-aggregate-print-2 c = search needs
 
 print-requires-2 : tie.Need-print-requires-2 Inv-loop μ-loop
 print-requires-2 c κs = search needs
+
+cast-print-number-2 : tie.Need-cast-print-number-2 Inv-loop μ-loop
+cast-print-number-2 c = search needs
 
 print-number-requires-2 : tie.Need-print-number-requires-2 Inv-loop μ-loop
 print-number-requires-2 c κs = search needs
@@ -70,6 +70,7 @@ print-state-spec =
     print-number-requires
     slice-aggregate-print-2
     print-requires-2
+    cast-print-number-2
     print-number-requires-2
     slice-aggregate-print-3
     print-requires-3

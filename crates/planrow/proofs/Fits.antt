@@ -1,0 +1,180 @@
+-- The plan's part of refusal 20 in the words of a row: the row stands for `planFor row`.
+use Prim.Native.Nat.{ℕ, zero, suc, _+_, _^_, _≤_, _<_}
+use mathlib.Core.Path.{_≡_, refl, sym, ap, ap₂, _∙_, subst}
+use mathlib.Core.Bool.{Bool, true, false, _&&_, _||_, and-true, and-false, and-assoc}
+use mathlib.Core.List.{List}
+use native.Mathlib.Omega.{arith}
+use lib.ListN.{getD}
+use lib.Dec.{ltb, leb}
+use lib.Bits.{bitOr, and-le-r, or-comm, or-lt, or-add-and}
+use borrow.Author.Tests.{le-ltb, lt-ltb, ltb-true, le-leb, lt-leb}
+use Rattle.lists.specs.Numbers.{every, all}
+use Rattle.lists.proofs.Tests.{and-left, and-right, and-of, fails, passes-fails, same-test}
+use Rattle.lists.proofs.Every.{every-ext, every-and, every-done}
+use Rattle.plan.specs.Plan.{at, successors}
+use Rattle.machine.specs.Machine.{templateFits, planFits}
+use Rattle.text.specs.Reading.{noPlan}
+use Rattle.planrow.specs.Row.{begins, countIn, identifiersIn, wordAt, formOf, templateOf, isTemplate, templateIn, isPlan}
+use Rattle.planrow.specs.Lookup.{planFor, templateAt}
+use Rattle.planrow.proofs.Reading.{word-first, template-tested, plan-template}
+use Rattle.planrow.proofs.Lookup.{stands-not, stands-count, stands-identifiers, stands-at, looked-up}
+
+-- ---- a plan that fits is that of a row that means one
+
+blank-unfit : planFits noPlan ≡ false
+unfolding planFits
+blank-unfit = refl
+
+-- A row that means no plan stands for one that does not fit.
+pub unfit-not : (row : List ℕ) → isPlan row ≡ false → planFits (planFor row) ≡ false
+unfit-not row e = ap planFits (stands-not row e) ∙ blank-unfit
+
+module _ (row : List ℕ) (f : planFits (planFor row) ≡ true) where
+  pub fit-means : isPlan row ≡ true
+  fit-means = pick (isPlan row) refl
+    where
+      pick : (b : Bool) → isPlan row ≡ b → b ≡ true
+      pick true q = refl
+      pick false q = sym (sym f ∙ unfit-not row q)
+
+  pub fit-count : planFor row .count ≡ countIn row
+  fit-count = stands-count row fit-means
+
+  pub fit-identifiers : planFor row .identifiers ≡ identifiersIn row
+  fit-identifiers = stands-identifiers row fit-means
+
+  -- A template below N is found in its words.
+  pub fit-lookup : (X : ℕ) → X < planFor row .count → templateAt row X ≡ at (planFor row) X
+  fit-lookup X h = looked-up row fit-means X (subst (λ (n : ℕ). X < n) fit-count h)
+
+-- ---- the test, over the words alone
+
+module _ (row : List ℕ) where
+  -- What is asked of template X beside the counts n and m,
+  abbrev pub fitsAt : ℕ → ℕ → ℕ → Bool
+  fitsAt n m X = isTemplate (wordAt row X) && templateFits n m (templateIn row X)
+
+  -- of these themselves,
+  abbrev counts : ℕ → ℕ → Bool
+  counts n m = ltb 0 n && (leb n 64 && leb m 32)
+
+  -- and in all.
+  abbrev fits : ℕ → ℕ → Bool
+  fits n m = counts n m && every n (fitsAt n m)
+
+  abbrev N : ℕ
+  N = countIn row
+
+  abbrev M : ℕ
+  M = identifiersIn row
+
+  means-words : isPlan row ≡ true → planFits (planFor row) ≡ fits N M
+  unfolding planFits
+  means-words e =
+      ap₂ (λ (n m : ℕ). counts n m && every n (λ X. templateFits n m (at (planFor row) X))) (stands-count row e) (stands-identifiers row e)
+      ∙ ap (λ (b : Bool). counts N M && b) (every-ext N _ (fitsAt N M) same)
+    where
+      same : (X : ℕ) → X < N → templateFits N M (at (planFor row) X) ≡ fitsAt N M X
+      same X h =
+          ap (templateFits N M) (stands-at row e X h)
+          ∙ ap (λ (b : Bool). b && templateFits N M (templateIn row X)) (sym (plan-template row e X h))
+
+  words-mean : fits N M ≡ true → isPlan row ≡ true
+  unfolding isPlan
+  words-mean e =
+      and-of _ _ (and-left (leb N 64) _ (and-right (ltb 0 N) _ (and-left (counts N M) _ e)))
+      (and-left (every N is) _ (sym (every-and N is _) ∙ and-right (counts N M) _ e))
+    where
+      is : ℕ → Bool
+      is X = isTemplate (wordAt row X)
+
+  in-words : planFits (planFor row) ≡ fits N M
+  in-words = pick (isPlan row) refl
+    where
+      pick : (b : Bool) → isPlan row ≡ b → planFits (planFor row) ≡ fits N M
+      pick true e = means-words e
+      pick false e = unfit-not row e ∙ sym (fails _ (λ f. passes-fails (isPlan row) (words-mean f) e))
+
+  -- As the code meets it: n and m are the row's counts.
+  module _ (n m : ℕ) (en : n ≡ countIn row) (em : m ≡ identifiersIn row) where
+    by-counts : planFits (planFor row) ≡ fits n m
+    by-counts = in-words ∙ sym (ap₂ fits en em)
+
+    pub row-empty : n < 1 → false ≡ planFits (planFor row)
+    row-empty h = sym (by-counts ∙ rw (le-ltb 0 n (omega arith)))
+
+    pub row-many : 1 ≤ n → 64 < n → false ≡ planFits (planFor row)
+    row-many k h = sym (by-counts ∙ rw (lt-ltb 0 n k, lt-leb n 64 h))
+
+    pub row-wide : 1 ≤ n → n ≤ 64 → 32 < m → false ≡ planFits (planFor row)
+    row-wide k l h = sym (by-counts ∙ rw (lt-ltb 0 n k, le-leb n 64 l, lt-leb m 32 h))
+
+    pub row-gathered : (i : ℕ) (r : Bool) → 1 ≤ n → n ≤ 64 → m ≤ 32 → i ≤ n → n ≤ i → r ≡ every i (fitsAt n m) → r ≡ planFits (planFor row)
+    row-gathered i r k l h a b e =
+        every-done n (fitsAt n m) i r a b e ∙ sym (by-counts ∙ rw (lt-ltb 0 n k, le-leb n 64 l, le-leb m 32 h))
+
+-- ---- a template's words
+
+-- The form's successors are those whose words it does not lack.
+successors-below : (number y z n : ℕ) → ((ltb number 1 || ltb y n) && (ltb number 2 || ltb z n)) ≡ all (λ Y. ltb Y n) (successors (formOf number y z))
+unfolding all successors formOf
+successors-below zero y z n = refl
+successors-below (suc zero) y z n = refl
+successors-below (suc (suc zero)) y z n = ap (λ (b : Bool). ltb y n && b) (sym (and-true (ltb z n)))
+successors-below (suc (suc (suc k))) y z n =
+    rw (le-ltb (suc (suc (suc k))) 1 (omega arith), le-ltb (suc (suc (suc k))) 2 (omega arith)) (ap (λ (b : Bool). ltb y n && b) (sym (and-true (ltb z n))))
+
+module _ (y n : ℕ) (lacking : Bool) where
+  pub successor-lacking : lacking ≡ true → leb y 255 ≡ (leb y 255 && (lacking || ltb y n))
+  successor-lacking e = rw e (sym (and-true (leb y 255)))
+
+  -- What is below N is a byte.
+  pub successor-there : n ≤ 64 → lacking ≡ false → ltb y n ≡ (leb y 255 && (lacking || ltb y n))
+  successor-there few e =
+      rw e (same-test _ _ (λ h. and-of _ _ (le-leb y 255 (let l = ltb-true y n h in omega arith)) h) (and-right (leb y 255) (ltb y n)))
+
+-- Of two masks both are below a power of 2 exactly where what is in either is.
+or-below : (m a b : ℕ) → ltb (bitOr a b) (2 ^ m) ≡ (ltb a (2 ^ m) && ltb b (2 ^ m))
+or-below m a b =
+    same-test _ _
+    (λ e. let h = ltb-true (bitOr a b) (2 ^ m) e in
+    and-of _ _ (lt-ltb a (2 ^ m) (omega (arith, le-or a b))) (lt-ltb b (2 ^ m) (omega (arith, le-or b a, or-comm a b))))
+    (λ e. lt-ltb _ _ (or-lt m a b (ltb-true a (2 ^ m) (and-left (ltb a (2 ^ m)) _ e)) (ltb-true b (2 ^ m) (and-right (ltb a (2 ^ m)) _ e))))
+  where
+    le-or : (a b : ℕ) → a ≤ bitOr a b
+    le-or a b = omega (arith, or-add-and a b, and-le-r a b)
+
+-- The code tests each successor as a byte and as a successor at once.
+regrouped : (a b c d p q r : Bool) → (a && ((b && p) && ((c && q) && (d && r)))) ≡ ((a && (b && (c && d))) && ((p && q) && r))
+regrouped false b c d p q r = refl
+regrouped true false c d p q r = refl
+regrouped true true false d p q r = and-false p
+regrouped true true true false true q r = and-false q
+regrouped true true true false false q r = refl
+regrouped true true true true p q r = sym (and-assoc p q r)
+
+module _ (row : List ℕ) (X n m : ℕ) where
+  abbrev word : ℕ → ℕ
+  word k = getD row (begins X + k) 0
+
+  -- s, t and r are the answers of `successor_fits` and `is_mask`.
+  pub template-gathered : (s t r : Bool)
+      → s ≡ (leb (word 1) 255 && (ltb (getD row (begins X) 0) 1 || ltb (word 1) n))
+      → t ≡ (leb (word 2) 255 && (ltb (getD row (begins X) 0) 2 || ltb (word 2) n))
+      → r ≡ ltb (bitOr (word 3) (bitOr (word 4) (bitOr (word 5) (word 6)))) (2 ^ m)
+      → (leb (getD row (begins X) 0) 3 && (s && (t && (leb (word 7) 1 && r)))) ≡ fitsAt row n m X
+  unfolding isTemplate templateFits templateIn templateOf wordAt
+  template-gathered s t r es et er =
+      (λ i. leb (getD row (begins X) 0) 3 && (es i && (et i && (leb (word 7) 1 && (er ∙ masks) i))))
+      ∙ regrouped (leb (getD row (begins X) 0) 3) (leb (word 1) 255) (leb (word 2) 255) (leb (word 7) 1) _ _ _
+      ∙ ap₂ _&&_ (template-tested row X)
+      (ap₂ _&&_ (ap below (word-first row X) ∙ successors-below (wordAt row X 0) (word 1) (word 2) n) refl)
+    where
+      below : ℕ → Bool
+      below k = (ltb k 1 || ltb (word 1) n) && (ltb k 2 || ltb (word 2) n)
+
+      masks : ltb (bitOr (word 3) (bitOr (word 4) (bitOr (word 5) (word 6)))) (2 ^ m)
+          ≡ (ltb (word 3) (2 ^ m) && (ltb (word 4) (2 ^ m) && (ltb (word 5) (2 ^ m) && ltb (word 6) (2 ^ m))))
+      masks =
+          or-below m (word 3) _ ∙ ap (λ (b : Bool). ltb (word 3) (2 ^ m) && b)
+          (or-below m (word 4) _ ∙ ap (λ (b : Bool). ltb (word 4) (2 ^ m) && b) (or-below m (word 5) (word 6)))
