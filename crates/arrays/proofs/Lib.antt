@@ -1,3 +1,4 @@
 pub mod Rows
 pub mod Loops
 pub mod Ranges
+pub mod Serials

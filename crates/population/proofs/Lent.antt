@@ -15,7 +15,7 @@ use Rattle.plan.specs.declared.Plan.{Plan}
 use Rattle.planrow.specs.Row.{identifiersIn}
 use Rattle.planrow.specs.Lookup.{planFor}
 use Rattle.arrays.specs.Places.{Located}
-use Rattle.arrays.proofs.Ranges.{place-of-start}
+use Rattle.arrays.proofs.Serials.{place-of-start}
 use Rattle.machine.specs.declared.Answer.{Answer}
 use Rattle.machine.specs.declared.Answer.the-variants.{Done, Delivered, Held, Refused}
 use Rattle.machine.specs.Machine.{Call, step, send, raise, lower, boxLimits, planFits, wellFormed, find, settled, ifDone, answerTo, run}

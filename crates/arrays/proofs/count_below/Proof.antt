@@ -5,7 +5,7 @@ use mathlib.Core.Path.{_≡_}
 use mathlib.Core.Bool.{true}
 use native.Mathlib.Omega.{arith}
 use Rattle.arrays.specs.Places.{rises, Split}
-use Rattle.arrays.proofs.Ranges.{split-start, split-more}
+use Rattle.arrays.proofs.Serials.{split-start, split-more}
 use Rattle.arrays.proofs.count_below.Statement.{statement}
 use Rattle.arrays.proofs.count_below.Tie as tie
 

@@ -1,6 +1,6 @@
 -- Those below the serial are counted, and the next one is compared.
 use borrow.Author.Needs.{needs}
-use Rattle.arrays.proofs.Ranges.{located-out, located-there, located-past, located-place, located-found, located-none}
+use Rattle.arrays.proofs.Serials.{located-out, located-there, located-past, located-place, located-found, located-none}
 use Rattle.arrays.proofs.place_of.Statement.{statement}
 use Rattle.arrays.proofs.place_of.Tie as tie
 
