@@ -5,7 +5,7 @@ use Rattle.lists.specs.Numbers.{every, any, lowest, tabulate, all}
 use Rattle.mask.specs.Mask.{has, without, plus}
 use Rattle.mask.specs.Sets.{within}
 use Rattle.plan.specs.Plan.{at, assertionAt, successors, creates}
-use Rattle.lists.proofs.Tests.{both, either}
+use Rattle.lists.specs.Joins.{both, either}
 use Rattle.route.specs.Search.{chosen, including, collect, only, meet, enterAll, isOpen, enter, reach, ways, targets, holds, passes as passesWay, crosses, branchesCross, forkCrosses, leads, anyIn, sharesTag, splitsTag}
 use Rattle.scan.specs.Bytes.{before, startsWith, same, standsIn}
 use Rattle.field.specs.Fields.{andThen, digit, digits, decimal, number, templateNumber, mask, nameByte, name, pair, form, risk, kind, misplaced, declass}

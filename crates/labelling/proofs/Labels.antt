@@ -1,14 +1,12 @@
 -- The ways out of a raise or a lower, as the code meets them.
-use Prim.Native.Nat.{ℕ, _*_, _%_, _^_, _≤_, _<_}
+use Prim.Native.Nat.{ℕ, _*_, _^_, _≤_, _<_}
 use mathlib.Core.Path.{_≡_, refl, sym, ap, ap₂, _∙_}
 use mathlib.Core.Bool.{Bool, true, false, not}
 use mathlib.Core.List.{List}
-use native.Mathlib.Nat.{one-mul, mod-eq-of-lt}
 use native.Mathlib.Omega.{arith}
 use lib.Bits.{bitOr}
 use lib.Dec.{eqb, ltb}
 use lib.ListN.{length, getD, set}
-use lib.Pow.{pow-lt}
 use lib.Seq.{getD-set-same, getD-set-other}
 use borrow.Author.Tests.{le-ltb, lt-ltb, ltb-true, not-false}
 use Rattle.lists.specs.Numbers.{lowest}
@@ -29,10 +27,6 @@ use Rattle.population.specs.Lent.{settles, Tried, answerFor}
 use Rattle.population.proofs.Fits.{formed-live, formed-identifiers, looked-at}
 use Rattle.population.proofs.Lent.{numbered, unless-step, tried-same, placed-at, found-none, found-some, found-serial, alone}
 use Rattle.labelling.specs.Labelling.{moves, refusalOf}
-
--- The mask of one identifier.
-pub single-is : (i : ℕ) → i < 32 → 1 * 2 ^ i % 2 ^ 32 ≡ 2 ^ i
-single-is i h = ap (λ (x : ℕ). x % 2 ^ 32) (one-mul (2 ^ i)) ∙ mod-eq-of-lt (pow-lt {j = 32} h)
 
 -- ---- 27 to 29
 

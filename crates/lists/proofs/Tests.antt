@@ -1,11 +1,11 @@
 -- What a Boolean test says, as plain facts: a test made from two tells of both, and facts of both tell of it.
--- `both` and `either` are `&&` and `||` that stay shut, so that their two tests can be read off a type.
 use Prim.Native.Nat.{ℕ, _≤_, _<_}
 use mathlib.Core.Path.{_≡_, refl, sym, _∙_}
 use mathlib.Core.Bool.{Bool, true, false, not, _&&_, _||_, true≢false, false≢true}
 use mathlib.Core.Logic.{_⊎_, inl, inr}
 use lib.Dec.{T, ltb}
 use borrow.Author.Tests.{ltb-true, ltb-false}
+use Rattle.lists.specs.Joins.{both, either}
 
 -- ---- one test
 
@@ -126,12 +126,6 @@ imp-or-of a true c h = imp-of a true (λ p. refl)
 imp-or-of a false c h = imp-of a c (λ p. h p refl)
 
 -- ---- the joins that stay shut
-
-unfoldable pub both : Bool → Bool → Bool
-both a b = a && b
-
-unfoldable pub either : Bool → Bool → Bool
-either a b = a || b
 
 pub both-and : (a b : Bool) → both a b ≡ (a && b)
 unfolding both

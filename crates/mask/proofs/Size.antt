@@ -1,22 +1,14 @@
 -- How many items a mask has: at most its width, no more than a mask that it is within, and more with a new item.
-use Prim.Native.Nat.{ℕ, zero, suc, _+_, _/_, _%_, _^_, _≤_, _<_, zero-le, suc-le-suc}
-use mathlib.Core.Path.{_≡_, refl, sym, ap, _∙_}
+use Prim.Native.Nat.{ℕ, zero, suc, _/_, _%_, _≤_, _<_, zero-le, suc-le-suc}
+use mathlib.Core.Path.{_≡_, refl, sym, _∙_}
 use mathlib.Core.Bool.{true, false, true≢false, false≢true}
 use native.Mathlib.Nat.{zero-lt-suc, not-suc-le-zero, le-of-suc-le-suc, le-refl, add-le-add}
 use native.Mathlib.Omega.{arith}
-use lib.Arith.{lt-one}
-use lib.Count.{ones, ones-step}
 use Rattle.mask.specs.Mask.{has, plus}
 use Rattle.mask.specs.Sets.{within, size}
-use Rattle.mask.proofs.Digits.{isOne, digit-lt, four-digits, half-lt}
+use Rattle.mask.proofs.Digits.{isOne, digit-lt, four-digits}
 use Rattle.mask.proofs.Items.{has-zero, has-suc, plus-within, plus-has}
 use Rattle.mask.proofs.Width.{within-has, within-of}
-
--- The machine's count.
-pub ones-size : (k m : ℕ) → m < 2 ^ k → ones m ≡ size k m
-unfolding size ones
-ones-size zero m h = ap ones (lt-one h)
-ones-size (suc k) m h = ones-step m ∙ ap (λ (x : ℕ). m % 2 + x) (ones-size k (m / 2) (half-lt k m h))
 
 pub size-le : (k m : ℕ) → size k m ≤ k
 unfolding size

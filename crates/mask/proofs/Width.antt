@@ -2,22 +2,19 @@
 -- the lowest item.
 use Prim.Native.Nat.{ℕ, zero, suc, _/_, _%_, _^_, _≤_, _<_, suc-le-suc}
 use mathlib.Core.Path.{_≡_, refl, sym, ap, _∙_, fun-ext}
-use mathlib.Core.Bool.{Bool, true, false, not, _&&_, _||_, cond}
-use native.Mathlib.Nat.{pow-suc, zero-lt-suc, not-suc-le-zero, le-of-suc-le-suc, lt-of-le-of-lt, not-le-of-lt}
+use mathlib.Core.Bool.{Bool, true, false, not, _||_, cond}
+use native.Mathlib.Nat.{pow-suc, zero-lt-suc, not-suc-le-zero, le-of-suc-le-suc, not-le-of-lt}
 use native.Mathlib.Omega.{arith}
-use lib.Dec.{eqb}
 use lib.Arith.{lt-one}
 use lib.Pow.{pow-pos}
-use lib.Bits.{bitAnd, and-le-l}
 use lib.Count.{trailingZeros, under}
-use borrow.Author.Tests.{eqb-true, eq-eqb}
 use Rattle.lists.specs.Numbers.{lowest}
-use Rattle.lists.proofs.Tests.{fails, passes-fails, same-test, imp, imp-of}
+use Rattle.lists.proofs.Tests.{fails, passes-fails, imp, imp-of}
 use Rattle.lists.proofs.Every.{every-at, every-of}
-use Rattle.mask.specs.Mask.{has, without}
+use Rattle.mask.specs.Mask.{has}
 use Rattle.mask.specs.Sets.{within}
 use Rattle.mask.proofs.Digits.{isOne, isOne-same, digit-lt, two-digits, half-lt}
-use Rattle.mask.proofs.Items.{has-zero, has-suc, has-and, has-without, has-none}
+use Rattle.mask.proofs.Items.{has-zero, has-suc, has-none}
 
 -- ---- the items of a mask of width k
 
@@ -63,31 +60,6 @@ pub within-of : (k a b : ℕ) → ((i : ℕ) → i < k → has i a ≡ true → 
 unfolding within
 within-of k a b f = every-of k (λ i. not (has i a) || has i b) (λ i h. imp-of (has i a) (has i b) (f i h))
 
-keeps : (x y : Bool) → (x ≡ true → y ≡ true) → (x && y) ≡ x
-keeps true y f = f refl
-keeps false y f = refl
-
-kept : (x y : Bool) → (x && y) ≡ x → x ≡ true → y ≡ true
-kept true y e h = e
-kept false y e h = absurd (passes-fails false h refl)
-
--- The code's test.
-pub within-and : (k a b : ℕ) → a < 2 ^ k → eqb (bitAnd a b) a ≡ within k a b
-within-and k a b h =
-    same-test (eqb (bitAnd a b) a) (within k a b)
-    (λ e. within-of k a b (λ i l. kept (has i a) (has i b) (sym (has-and i a b) ∙ ap (has i) (eqb-true (bitAnd a b) a e))))
-    (λ e. eq-eqb (bitAnd a b) a (mask-ext k (bitAnd a b) a (lt-of-le-of-lt (and-le-l a b) h) h
-    (λ i l. has-and i a b ∙ keeps (has i a) (has i b) (within-has k a b e i l))))
-
--- Nothing is left over exactly where one is within the other.
-pub without-none : (k a b : ℕ) → a < 2 ^ k → eqb (without a b) 0 ≡ within k a b
-unfolding without
-without-none k a b h =
-    same-test (eqb (without a b) 0) (eqb (bitAnd a b) a)
-    (λ e. eq-eqb (bitAnd a b) a (omega (arith, and-le-l a b, eqb-true (without a b) 0 e)))
-    (λ e. eq-eqb (without a b) 0 (omega (arith, eqb-true (bitAnd a b) a e)))
-    ∙ within-and k a b h
-
 -- ---- the lowest item
 
 -- The machine's count of trailing zeros.
@@ -99,7 +71,3 @@ trailing-lowest (suc k) m =
     ap (under (m % 2)) (trailing-lowest k (m / 2) ∙ ap (lowest k) (fun-ext (λ i. sym (has-suc i m))))
     ∙ two-digits (λ (x : ℕ). under x rest ≡ cond (isOne x) zero (suc rest)) refl refl (m % 2) (digit-lt m)
     ∙ ap (λ (b : Bool). cond b zero (suc rest)) (sym (has-zero m))
-
--- The lowest item of what is left over.
-pub lowest-without : (k a b : ℕ) → lowest k (λ i. has i (without a b)) ≡ lowest k (λ i. has i a && not (has i b))
-lowest-without k a b = ap (lowest k) (fun-ext (λ i. has-without i a b))

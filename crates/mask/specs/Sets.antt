@@ -1,6 +1,6 @@
--- Masks as sets: what contracts of crate mask name besides Mask.antt.
+-- Masks as sets: what contracts and laws of crate mask name besides Mask.antt.
 -- Not to be believed: nothing that document 01 says is said with these.
-use Prim.Native.Nat.{ℕ, zero, suc, _+_, _/_, _%_}
+use Prim.Native.Nat.{ℕ, zero, suc, _+_, _*_, _/_, _%_, _^_}
 use mathlib.Core.Bool.{Bool, not, cond, _||_}
 use lib.Dec.{ltb}
 use Rattle.lists.specs.Numbers.{every}
@@ -13,6 +13,10 @@ within width a b = every width (λ i. not (has i a) || has i b)
 -- The items of m, and i where it is below the width.
 unfoldable pub plusBelow : ℕ → ℕ → ℕ → ℕ
 plusBelow width m i = cond (ltb i width) (plus m i) m
+
+-- The items of m, each n higher.
+unfoldable pub raised : ℕ → ℕ → ℕ
+raised n m = m * 2 ^ n
 
 -- How many items below the width are in m.
 unfoldable pub size : ℕ → ℕ → ℕ

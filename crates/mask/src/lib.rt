@@ -1,9 +1,9 @@
 // Sets of small numbers as masks: identifiers in 32 bits, templates in 64.
 ghost use mathlib.Core.Path.{_≡_};
-ghost use Prim.Native.Nat.{_+_, _^_, min};
+ghost use Prim.Native.Nat.{_+_, _%_, _^_, min};
 ghost use Rattle.lists.specs.Numbers.{lowest};
 ghost use Rattle.mask.specs.Mask.{has, without};
-ghost use Rattle.mask.specs.Sets.{within, plusBelow, size};
+ghost use Rattle.mask.specs.Sets.{plusBelow, raised};
 
 // Whether item i is in the mask m; nothing stands at or past the width.
 pub fn contains_u32(m: u32, i: u32) -> bool
@@ -25,13 +25,6 @@ pub fn contains_u64(m: u64, x: u8) -> bool
     (m >> x) % 2 == 1
 }
 
-// Whether each item of a is in b.
-pub fn is_within(a: u32, b: u32) -> bool
-    ensures { λ r. ⌜ r ≡ within 32 a b ⌝ }
-{
-    a & b == a
-}
-
 // The items of a that are not in b.
 pub fn difference(a: u32, b: u32) -> u32
     ensures { λ r. ⌜ r ≡ without a b ⌝ }
@@ -46,8 +39,18 @@ pub fn lowest_item(m: u32) -> u32
     u32::trailing_zeros(m)
 }
 
+// The items of m, and i where it is below the width.
+pub fn insert_u32(m: u32, i: u32) -> u32
+    ensures { λ r. ⌜ r ≡ plusBelow 32 m i ⌝ }
+{
+    if 32 <= i {
+        return m;
+    }
+    m | (1u32 << i)
+}
+
 // The items of m, and x where it is below the width.
-pub fn insert(m: u64, x: u8) -> u64
+pub fn insert_u64(m: u64, x: u8) -> u64
     ensures { λ r. ⌜ r ≡ plusBelow 64 m x ⌝ }
 {
     if 64 <= x {
@@ -56,11 +59,24 @@ pub fn insert(m: u64, x: u8) -> u64
     m | (1u64 << x)
 }
 
-// How many items m has.
-pub fn item_count(m: u64) -> u32
-    ensures { λ r. ⌜ r ≡ size 64 m ⌝ }
+// The items of m, each n higher; those that come to stand past the width are lost.
+pub fn raise_u32(m: u32, n: u32) -> u32
+    ensures { λ r. ⌜ r ≡ raised n m % 2 ^ 32 ⌝ }
 {
-    u64::count_ones(m)
+    if 32 <= n {
+        return 0;
+    }
+    m << n
+}
+
+// The items of m, each d higher; those that come to stand past the width are lost.
+pub fn raise_u64(m: u64, d: u8) -> u64
+    ensures { λ r. ⌜ r ≡ raised d m % 2 ^ 64 ⌝ }
+{
+    if 64 <= d {
+        return 0;
+    }
+    m << d
 }
 
 // How many masks there are over m identifiers; a mask has room for 32.

@@ -7,7 +7,7 @@ use mathlib.Core.Bool.{Bool, true, _&&_, _||_}
 use mathlib.Core.List.{List}
 use lib.Bits.{bitAnd}
 use Rattle.lists.specs.Numbers.{any}
-use Rattle.lists.proofs.Tests.{both, either}
+use Rattle.lists.specs.Joins.{both, either}
 use Rattle.mask.specs.Mask.{has}
 use Rattle.plan.specs.declared.Plan.{Plan}
 use Rattle.plan.specs.Plan.{at, successors, creates}

@@ -6,7 +6,8 @@ use mathlib.Core.Logic.{_⊎_, inl, inr, ⊎-elim}
 use mathlib.Core.Bool.{Bool, true, false≢true}
 use mathlib.Core.List.{List, [], _∷_}
 use native.Mathlib.Nat.{le-refl}
-use Rattle.lists.proofs.Tests.{either, both-left, both-right, both-of, either-left, either-right, either-cases}
+use Rattle.lists.specs.Joins.{either}
+use Rattle.lists.proofs.Tests.{both-left, both-right, both-of, either-left, either-right, either-cases}
 use Rattle.mask.specs.Mask.{has}
 use Rattle.plan.specs.declared.Form.{Form}
 use Rattle.plan.specs.declared.Form.the-variants.{End, Go, Either, Both}

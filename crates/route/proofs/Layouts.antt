@@ -8,7 +8,8 @@ use mathlib.Core.List.{List, [], _∷_}
 use lib.Bits.{bitAnd}
 use lib.ListN.{getD}
 use Rattle.lists.specs.Numbers.{any}
-use Rattle.lists.proofs.Tests.{both, either, lt-or-le}
+use Rattle.lists.specs.Joins.{both, either}
+use Rattle.lists.proofs.Tests.{lt-or-le}
 use Rattle.lists.proofs.Every.{any-ext, any-of}
 use Rattle.lists.proofs.Tabulate.{getD-tabulate, getD-tabulate-past}
 use Rattle.mask.specs.Mask.{has, plus}

@@ -8,7 +8,8 @@ use mathlib.Core.List.{List, [], _∷_}
 use native.Mathlib.Omega.{arith}
 use lib.Dec.{ltb}
 use borrow.Author.Tests.{ltb-true, lt-ltb, not-true}
-use Rattle.lists.proofs.Tests.{both, both-left, both-right, both-of, passes-fails, bool?}
+use Rattle.lists.specs.Joins.{both}
+use Rattle.lists.proofs.Tests.{both-left, both-right, both-of, passes-fails, bool?}
 use Rattle.mask.specs.Mask.{has, plus}
 use Rattle.mask.specs.Sets.{size}
 use Rattle.mask.proofs.Items.{has-none, plus-within, plus-has, plus-cases}

@@ -6,7 +6,8 @@ use mathlib.Core.Bool.{Bool, true, false}
 use native.Mathlib.Nat.{not-suc-le-zero, le-of-suc-le-suc, eq-or-lt-of-le, lt-suc-self, le-trans, le-suc, le-refl}
 use lib.Dec.{ltb}
 use borrow.Author.Tests.{lt-ltb, eqb-true, eq-eqb}
-use Rattle.lists.proofs.Tests.{both, both-left, both-right, both-of, passes-fails, same-test}
+use Rattle.lists.specs.Joins.{both}
+use Rattle.lists.proofs.Tests.{both-left, both-right, both-of, passes-fails, same-test}
 use Rattle.lists.proofs.Every.{any-from, any-to}
 use Rattle.mask.specs.Mask.{has, plus}
 use Rattle.mask.proofs.Items.{has-none, plus-within, plus-has, plus-cases}

@@ -13,7 +13,8 @@ use lib.Bits.{bitAnd, and-le-l}
 use lib.ListN.{getD}
 use borrow.Author.Tests.{ltb-true, eqb-true, eq-eqb, not-true, not-false}
 use Rattle.lists.specs.Numbers.{any}
-use Rattle.lists.proofs.Tests.{both, either, and-left, and-right, and-of, same-test, passes-fails, fails, bool?}
+use Rattle.lists.specs.Joins.{both, either}
+use Rattle.lists.proofs.Tests.{and-left, and-right, and-of, same-test, passes-fails, fails, bool?}
 use Rattle.lists.proofs.Every.{any-at, any-acc}
 use Rattle.mask.specs.Mask.{has, plus}
 use Rattle.mask.specs.Sets.{plusBelow}

@@ -5,7 +5,7 @@ use mathlib.Core.Bool.{Bool, true, false, not}
 use mathlib.Core.List.{List, [], _∷_}
 use lib.Dec.{ltb}
 use Rattle.lists.specs.Numbers.{any}
-use Rattle.lists.proofs.Tests.{both, either}
+use Rattle.lists.specs.Joins.{both, either}
 use Rattle.mask.specs.Mask.{has, plus}
 use Rattle.plan.specs.declared.Form.{Form}
 use Rattle.plan.specs.declared.Form.the-variants.{End, Go, Either, Both}

@@ -42,7 +42,7 @@ fn include(m: u64, x: u8, wanted: bool) -> u64
     ensures { λ r. ⌜ r ≡ including m x wanted ⌝ }
 {
     if wanted {
-        return mask::insert(m, x);
+        return mask::insert_u64(m, x);
     }
     m
 }
@@ -154,7 +154,7 @@ fn enter<'a>(first: &'a [u8; 64], second: &'a [u8; 64], x: u8, barred: u64, seen
     if !is_open(x, barred, seen) {
         return seen;
     }
-    let here = mask::insert(seen, x);
+    let here = mask::insert_u64(seen, x);
     let i = x as usize;
     let after = enter(first, second, first[i], barred, here);
     enter(first, second, second[i], barred, after)

@@ -9,7 +9,7 @@ use Rattle.route.proofs.Entering.{enter-stops, enter-low, enter-less, e
 use Rattle.route.proofs.enter.Reads as enter
 use Rattle.route.proofs.enter.Kinds as enter-kinds
 use Rattle.route.proofs.+enter.Lts-enter as enter-lts
-use Rattle.mask.proofs.insert.Reads as insert-reads
+use Rattle.mask.proofs.insert_u64.Reads as insert-reads
 use Rattle.route.proofs.is_open.Reads as is-open-reads
 use Rattle.route.proofs.+enter.{statement}
 use Rattle.route.proofs.+enter.Tie.{close}
@@ -32,8 +32,8 @@ is-open-requires t c κs = search needs
 stops : (t : ℕ) → enter-lts.Need-returns (claims t) (enter-at t) enter.Post
 stops t c = search enter-stops
 
-insert-requires : (t : ℕ) → enter-lts.Need-insert-requires (claims t) (enter-at t) enter.Post
-insert-requires t c κs = search needs
+insert-u64-requires : (t : ℕ) → enter-lts.Need-insert-u64-requires (claims t) (enter-at t) enter.Post
+insert-u64-requires t c κs = search needs
 
 first-place : (t : ℕ) → enter-lts.Need-element-copy-out-enter (claims t) (enter-at t) enter.Post
 first-place t c = search enter-low
@@ -55,7 +55,7 @@ pub +enter-spec : {M : Type 1} → statement M
     close μ-enter λ t. enter-lts.spec (claims t) (enter-at t) enter.Post
     (is-open-requires t)
     (stops t)
-    (insert-requires t)
+    (insert-u64-requires t)
     (first-place t)
     (first-requires t)
     (second-place t)

@@ -4,8 +4,8 @@ use Rattle.route.proofs.Steps.{included, not-included}
 use Rattle.route.proofs.include.Statement.{statement}
 use Rattle.route.proofs.include.Tie as tie
 
-insert-requires : tie.Need-insert-requires
-insert-requires c κs = search needs
+insert-u64-requires : tie.Need-insert-u64-requires
+insert-u64-requires c κs = search needs
 
 returns : tie.Need-returns
 returns c = search included
@@ -14,4 +14,4 @@ returns-2 : tie.Need-returns-2
 returns-2 c = search not-included
 
 pub include-spec : {M : Type 1} → statement M
-include-spec = tie.close (tie.spec insert-requires returns returns-2)
+include-spec = tie.close (tie.spec insert-u64-requires returns returns-2)
