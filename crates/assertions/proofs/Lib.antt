@@ -1,2 +1,4 @@
+pub mod Wearing
 pub mod Serving
 pub mod Prot
+pub mod Order

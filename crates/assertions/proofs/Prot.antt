@@ -1,169 +1,187 @@
--- Rules 18 and 19 at one identifier, one law for each way out; the loops over identifiers and over assertions; and the
--- two kinds.
+-- Rules 18 and 19 by masks: the identifiers that are parted, as a loop finds them, and the lowest of both rules'
+-- offenders, at which the walk over the identifiers stops.
 use Prim.Native.Nat.{ℕ, _+_, _^_, _≤_, _<_, min}
 use mathlib.Core.Path.{_≡_, refl, sym, ap, ap₂, subst, _∙_}
-use mathlib.Core.Bool.{Bool, true, false, cond}
-use mathlib.Core.List.{map}
+use mathlib.Core.Logic.{_⊎_, ⊎-elim, inl, inr}
+use mathlib.Core.Bool.{Bool, true, false, not, cond, _&&_, true≢false, false≢true}
+use mathlib.Core.List.{List}
+use native.Mathlib.Nat.{lt-trans, le-trans}
 use native.Mathlib.Omega.{arith}
-use mir.Syntax.{w8}
-use mir.Val.{Fits}
-use lib.ListN.{length}
-use Rattle.lists.specs.Numbers.{any}
-use Rattle.mask.specs.Mask.{has}
-use Rattle.mask.proofs.Width.{has-past}
-use Rattle.plan.specs.declared.Plan.{Plan}
-use Rattle.plan.specs.declared.Kind.the-variants.{Secrecy, Prot}
+use lib.Dec.{ltb, eqb}
+use lib.Bits.{bitAnd, bitOr}
+use borrow.Author.Tests.{lt-ltb, le-ltb, ltb-true}
+use Rattle.lists.specs.Numbers.{lowest}
+use Rattle.lists.proofs.Tests.{bool?, lt-or-le, passes-fails, same-test, and-left, and-right, and-of, or-none, or-cases}
+use Rattle.lists.proofs.Lowest.{lowest-le, lowest-holds, lowest-below}
+use Rattle.mask.specs.Mask.{has, without, plus}
+use Rattle.mask.specs.Sets.{plusBelow}
+use Rattle.mask.proofs.Items.{has-or, has-and, has-without, has-none, plus-has, plus-within, plus-cases, plus-below}
+use Rattle.mask.proofs.Width.{has-below, has-past}
 use Rattle.plan.specs.declared.Assertion.{Assertion}
-use Rattle.plan.specs.declared.Policy.{Policy}
-use Rattle.plan.specs.Plan.{blankAssertion, at, assertionAt}
-use Rattle.plan.proofs.Places.{assertion-past}
-use Rattle.route.specs.Search.{splitsTag}
+use Rattle.route.specs.Search.{collect, splitsOver}
+use Rattle.route.specs.Layout.{madeBy, laidOut}
 use Rattle.rules.specs.declared.Verdict.{Verdict}
 use Rattle.rules.specs.declared.Verdict.the-variants.{Accepted}
-use Rattle.rules.specs.Judge.{broken, firstBelow, serves, checkProt, checkAssertion, checkAssertions}
-use Rattle.rules.specs.Broken.{accepted}
-use Rattle.rules.proofs.Walk.{broken-accepted, accepted-is, below-none, below-more, below-leaves, below-past, below-alike}
+use Rattle.rules.specs.Judge.{broken, firstBelow}
+use Rattle.rules.specs.Broken.{tested}
+use Rattle.rules.proofs.Walk.{below-all, below-broken}
+use Rattle.assertions.specs.declared.Labels.{Labels}
+use Rattle.assertions.specs.Lent.{parted, protBy}
 
--- ---- one identifier
+-- ---- one identifier that is asked
 
-module _ (plan : Plan) (place : ℕ) (a : Assertion) (t : ℕ) where
-  abbrev tested : Bool → Bool → Bool → Verdict
-  tested l k s = cond l (cond k (cond s (broken 19 place (a .sink) t) Accepted) (broken 18 place (a .sink) t)) Accepted
+module _ (first second masks : List ℕ) (forks asked : ℕ) (a : Assertion) (found t : ℕ) (k : Bool) (e : k ≡ has t asked) where
+  abbrev taken : Bool → Bool → ℕ
+  taken x y = cond (x && y) (plusBelow 32 found t) found
 
-  abbrev L : Bool
-  L = has t (at plan (a .source) .lab)
+  pub unasked : k ≡ false → found ≡ cond (has t asked && parted first second masks forks a t) (plusBelow 32 found t) found
+  unasked f = sym (ap (λ (b : Bool). taken b (parted first second masks forks a t)) (sym e ∙ f))
 
-  abbrev K : Bool
-  K = has t (at plan (a .sink) .lab)
+  module _ (g : k ≡ true) (C : ℕ) (made : C ≡ collect 64 (madeBy masks t)) (s : Bool) (j : s ≡ splitsOver (laidOut first second) forks C (a .source) (a .sink) (a .anc)) where
+    splits : s ≡ parted first second masks forks a t
+    unfolding parted
+    splits = j ∙ ap (λ (m : ℕ). splitsOver (laidOut first second) forks m (a .source) (a .sink) (a .anc)) made
 
-  abbrev S : Bool
-  S = splitsTag plan t (a .source) (a .sink) (a .anc)
+    pub unparted : s ≡ false → found ≡ cond (has t asked && parted first second masks forks a t) (plusBelow 32 found t) found
+    unparted f = sym (ap₂ taken (sym e ∙ g) (sym splits ∙ f))
 
-  all : checkProt plan place a t ≡ tested L K S
-  unfolding checkProt
-  all = refl
+    pub taken-in : s ≡ true → (r : ℕ) → r ≡ plusBelow 32 found t → r ≡ cond (has t asked && parted first second masks forks a t) (plusBelow 32 found t) found
+    taken-in f r h = h ∙ sym (ap₂ taken (sym e ∙ g) (sym splits ∙ f))
 
-  module _ (lab : ℕ) (of-source : lab ≡ at plan (a .source) .lab) (l : Bool) (asked : l ≡ has t lab) where
-    worn : l ≡ has t (at plan (a .source) .lab)
-    worn = asked ∙ ap (has t) of-source
+-- ---- all of them
 
-    pub prot-bare : l ≡ false → Accepted ≡ checkProt plan place a t
-    prot-bare f = sym (all ∙ ap (λ (y : Bool). tested y K S) (sym worn ∙ f))
+-- What the loop keeps: of the identifiers below t, those that pass are found.
+pub record FoundSoFar (asked : ℕ) (parts : ℕ → Bool) (limit found t : ℕ) : Type 0 where
+  pub below : t ≤ limit
+  pub so-far : (i : ℕ) → has i found ≡ (ltb i t && (has i asked && parts i))
 
-    module _ (g : l ≡ true) (low : ℕ) (of-sink : low ≡ at plan (a .sink) .lab) (k : Bool) (seen : k ≡ has t low) where
-      sunk : k ≡ has t (at plan (a .sink) .lab)
-      sunk = seen ∙ ap (has t) of-sink
+module _ (asked : ℕ) (parts : ℕ → Bool) (limit : ℕ) where
+  pub found-none : FoundSoFar asked parts limit 0 0
+  found-none = record { below = omega arith; so-far = λ i. has-none i ∙ sym (ap (λ (b : Bool). b && (has i asked && parts i)) (le-ltb i 0 (omega arith))) }
 
-      pub prot-18 : k ≡ false → (r : Verdict) → r ≡ broken 18 place (a .sink) t → r ≡ checkProt plan place a t
-      prot-18 f r e = e ∙ sym (all ∙ ap₂ (λ (y w : Bool). tested y w S) (sym worn ∙ g) (sym sunk ∙ f))
+  module _ (found t : ℕ) (s : FoundSoFar asked parts limit found t) where
+    pub found-end : limit ≤ t → (i : ℕ) → has i found ≡ (ltb i limit && (has i asked && parts i))
+    found-end h i = let l = s .below in let q : t ≡ limit = omega arith in s .so-far i ∙ ap (λ (k : ℕ). ltb i k && (has i asked && parts i)) q
 
-      module _ (m : k ≡ true) (s : Bool) (j : s ≡ splitsTag plan t (a .source) (a .sink) (a .anc)) where
-        worn-both : checkProt plan place a t ≡ tested true true s
-        worn-both = all ∙ ap₂ (λ (y w : Bool). tested y w S) (sym worn ∙ g) (sym sunk ∙ m) ∙ ap (tested true true) (sym j)
+    abbrev P : ℕ → Bool
+    P i = has i asked && parts i
 
-        pub prot-19 : s ≡ true → (r : Verdict) → r ≡ broken 19 place (a .sink) t → r ≡ checkProt plan place a t
-        prot-19 f r e = e ∙ sym (worn-both ∙ ap (tested true true) f)
+    was-found : (i : ℕ) → has i found ≡ true → (i < t) × (P i ≡ true)
+    was-found i h =
+        let e = sym (s .so-far i) ∙ h in
+        (ltb-true i t (and-left (ltb i t) (P i) e), and-right (ltb i t) (P i) e)
 
-        pub prot-whole : s ≡ false → Accepted ≡ checkProt plan place a t
-        prot-whole f = sym (worn-both ∙ ap (tested true true) f)
+    module _ (small : asked < 2 ^ 32) (r : ℕ) (e : r ≡ cond (has t asked && parts t) (plusBelow 32 found t) found) where
+      one-more : P t ≡ true → r ≡ plus found t
+      one-more h =
+          e ∙ ap (λ (b : Bool). cond b (plusBelow 32 found t) found) h
+          ∙ plus-below 32 found t (has-below 32 asked t small (and-left (has t asked) (parts t) h))
 
--- ---- all identifiers
+      no-more : P t ≡ false → r ≡ found
+      no-more f = e ∙ ap (λ (b : Bool). cond b (plusBelow 32 found t) found) f
 
--- What the loop keeps: the first t are accepted. No identifier past the 32 items of a mask is in the source's lab.
-pub record ProtSoFar (plan : Plan) (place : ℕ) (a : Assertion) (n t : ℕ) : Type 0 where
-  pub whole : n ≡ min (plan .identifiers) 32
-  pub below : t ≤ n
-  pub so-far : firstBelow t (checkProt plan place a) ≡ Accepted
+      found-from : (i : ℕ) → has i r ≡ true → (ltb i (t + 1) && P i) ≡ true
+      found-from i h = ⊎-elim
+          (λ p. ⊎-elim (λ w. earlier (was-found i w)) (λ q. and-of (ltb i (t + 1)) (P i) (lt-ltb i (t + 1) (omega (arith, q))) (ap P q ∙ p))
+          (plus-cases found t i (ap (has i) (sym (one-more p)) ∙ h)))
+          (λ f. earlier (was-found i (ap (has i) (sym (no-more f)) ∙ h))) (bool? (P t))
+        where
+          earlier : (i < t) × (P i ≡ true) → (ltb i (t + 1) && P i) ≡ true
+          earlier w = let l = w .0 in and-of (ltb i (t + 1)) (P i) (lt-ltb i (t + 1) (omega arith)) (w .1)
 
-module _ (plan : Plan) (place : ℕ) (a : Assertion) where
-  pub prot-start : (n : ℕ) → n ≡ min (plan .identifiers) 32 → ProtSoFar plan place a n 0
-  prot-start n e = record { whole = e; below = omega arith; so-far = below-none (checkProt plan place a) }
+      found-to : (i : ℕ) → (ltb i (t + 1) && P i) ≡ true → has i r ≡ true
+      found-to i h =
+          let l = ltb-true i (t + 1) (and-left (ltb i (t + 1)) (P i) h) in
+          let p = and-right (ltb i (t + 1)) (P i) h in
+          ⊎-elim
+          (λ k. let w = s .so-far i ∙ and-of (ltb i t) (P i) (lt-ltb i t k) p in
+          ⊎-elim (λ q. ap (has i) (one-more q) ∙ plus-within found t i w) (λ f. ap (has i) (no-more f) ∙ w) (bool? (P t)))
+          (λ k. let q : i ≡ t = omega arith in
+          ap (has i) (one-more (ap P (sym q) ∙ p)) ∙ subst (λ (j : ℕ). has j (plus found t) ≡ true) (sym q) (plus-has found t))
+          (lt-or-le i t)
 
-  module _ (n t : ℕ) (s : ProtSoFar plan place a n t) where
-    pub prot-room : t < n → Fits w8 (t + 1)
-    prot-room h = let l = s .whole in omega arith
+      pub found-more : t < limit → FoundSoFar asked parts limit r (t + 1)
+      found-more l = record { below = omega arith; so-far = λ i. same-test (has i r) (ltb i (t + 1) && P i) (found-from i) (found-to i) }
 
-    module _ (l : t < n) (v : Verdict) (e : v ≡ checkProt plan place a t) (b : Bool) (q : b ≡ accepted v) where
-      pub prot-more : b ≡ true → ProtSoFar plan place a n (t + 1)
-      prot-more f = record { whole = s .whole; below = omega arith; so-far = below-more t (checkProt plan place a) (s .so-far) (sym e ∙ accepted-is v (sym q ∙ f)) }
+-- ---- the lowest offender of both rules
 
-      pub prot-stop : b ≡ false → v ≡ firstBelow (plan .identifiers) (checkProt plan place a)
-      prot-stop f = let w = s .whole in below-leaves (plan .identifiers) (checkProt plan place a) t v (omega arith) (s .so-far) e b q f
+pub rule-19 : (sink t : ℕ) (b : Bool) → b ≡ has t sink → b ≡ true → _≡_ {A = ℕ} 19 (cond (has t sink) 19 18)
+rule-19 sink t b e f = sym (ap (λ (x : Bool). cond x 19 18) (sym e ∙ f))
 
-    module _ (lab : ℕ) (of-source : lab ≡ at plan (a .source) .lab) (small : lab < 2 ^ 32) where
-      past : (u : ℕ) → 32 ≤ u → checkProt plan place a u ≡ Accepted
-      past u h = sym (prot-bare plan place a u lab of-source (has u lab) refl (has-past 32 lab u small h))
+pub rule-18 : (sink t : ℕ) (b : Bool) → b ≡ has t sink → b ≡ false → _≡_ {A = ℕ} 18 (cond (has t sink) 19 18)
+rule-18 sink t b e f = sym (ap (λ (x : Bool). cond x 19 18) (sym e ∙ f))
 
-      pub prot-end : n ≤ t → Accepted ≡ firstBelow (plan .identifiers) (checkProt plan place a)
-      prot-end h =
-          let q : t ≡ min (plan .identifiers) 32 = omega (arith, s .whole, s .below) in
-          sym (below-past (plan .identifiers) 32 (checkProt plan place a) past (subst (λ (k : ℕ). firstBelow k (checkProt plan place a) ≡ Accepted) q (s .so-far)))
+module _ (place : ℕ) (a : Assertion) (t : ℕ) where
+  calm : (l k s : Bool) → (l && not k) ≡ false → ((l && k) && s) ≡ false → tested place a t l k s ≡ Accepted
+  calm true true true e h = absurd (true≢false h)
+  calm true true false e h = refl
+  calm true false s e h = absurd (true≢false e)
+  calm false k s e h = refl
 
--- ---- one assertion
+  offending : (l k s : Bool) → ((l && not k) ≡ true) ⊎ (((l && k) && s) ≡ true) → tested place a t l k s ≡ broken (cond k 19 18) place (a .sink) t
+  offending true true true h = refl
+  offending true true false h = absurd (⊎-elim false≢true false≢true h)
+  offending true false s h = refl
+  offending false k s h = absurd (⊎-elim false≢true false≢true h)
 
-module _ (plan : Plan) (place : ℕ) (a : Assertion) where
-  pub secrecy-kept : a .kind ≡ Secrecy → (b : Bool) → b ≡ any (plan .identifiers) (serves plan a) → b ≡ true → Accepted ≡ checkAssertion plan place a (a .kind)
-  unfolding checkAssertion
-  secrecy-kept k b e f =
-      sym (ap (checkAssertion plan place a) k ∙ ap (λ (c : Bool). cond c Accepted (broken 17 place (a .sink) 255)) (sym e ∙ f))
+module _ (labels : Labels) (place : ℕ) (a : Assertion) (parts : ℕ → Bool) (bare low end split t : ℕ)
+    (b : bare ≡ without (labels .source) (labels .sink)) (l : low ≡ lowest 32 (λ j. has j bare)) (m : end ≡ min low (labels .limit))
+    (p : (j : ℕ) → has j split ≡ (ltb j end && (has j (bitAnd (labels .source) (labels .sink)) && parts j)))
+    (e : t ≡ lowest 32 (λ j. has j (bitOr bare split))) where
+  abbrev L : ℕ → Bool
+  L j = has j (labels .source)
 
-  pub secrecy-17 : a .kind ≡ Secrecy → (b : Bool) → b ≡ any (plan .identifiers) (serves plan a) → b ≡ false → broken 17 place (a .sink) 255 ≡ checkAssertion plan place a (a .kind)
-  unfolding checkAssertion
-  secrecy-17 k b e f =
-      sym (ap (checkAssertion plan place a) k ∙ ap (λ (c : Bool). cond c Accepted (broken 17 place (a .sink) 255)) (sym e ∙ f))
+  abbrev K : ℕ → Bool
+  K j = has j (labels .sink)
 
-  pub prot-kind : a .kind ≡ Prot → (v : Verdict) → v ≡ firstBelow (plan .identifiers) (checkProt plan place a) → v ≡ checkAssertion plan place a (a .kind)
-  unfolding checkAssertion
-  prot-kind k v e = e ∙ sym (ap (checkAssertion plan place a) k)
+  bare-at : (j : ℕ) → has j bare ≡ (L j && not (K j))
+  bare-at j = ap (has j) b ∙ has-without j (labels .source) (labels .sink)
 
--- ---- all assertions
+  split-at : (j : ℕ) → has j split ≡ (ltb j end && ((L j && K j) && parts j))
+  split-at j = p j ∙ ap (λ (x : Bool). ltb j end && (x && parts j)) (has-and j (labels .source) (labels .sink))
 
--- What the loop keeps: the first i are accepted. Past the 32 places stands the blank assertion, and whether it is accepted
--- does not depend on its place.
-pub record AllSoFar (plan : Plan) (policy : Policy) (k i : ℕ) : Type 0 where
-  pub whole : k ≡ min (policy .count) 33
-  pub below : i ≤ k
-  pub so-far : firstBelow i (λ i. checkAssertion plan i (assertionAt policy i) (assertionAt policy i .kind)) ≡ Accepted
+  neither : (j : ℕ) → j < t → (has j bare ≡ false) × (has j split ≡ false)
+  neither j h =
+      or-none (has j bare) (has j split) (sym (has-or j bare split) ∙ lowest-below 32 (λ j. has j (bitOr bare split)) j (subst (λ (k : ℕ). j < k) e h))
 
-module _ (plan : Plan) (policy : Policy) where
-  abbrev each : ℕ → Verdict
-  each i = checkAssertion plan i (assertionAt policy i) (assertionAt policy i .kind)
+  within : t ≤ 32
+  within = subst (λ (k : ℕ). k ≤ 32) (sym e) (lowest-le 32 (λ j. has j (bitOr bare split)))
 
-  pub all-start : (k : ℕ) → k ≡ min (policy .count) 33 → AllSoFar plan policy k 0
-  all-start k e = record { whole = e; below = omega arith; so-far = below-none each }
+  -- Before 18's lowest.
+  no-later : t ≤ low
+  no-later = ⊎-elim
+      (λ h. absurd (passes-fails (has low bare)
+      (ap (λ (k : ℕ). has k bare) l ∙ lowest-holds 32 (λ j. has j bare) (subst (λ (k : ℕ). k < 32) l (le-trans h within)))
+      (neither low h .0)))
+      (λ h. h) (lt-or-le low t)
 
-  blank-alike : (i j : ℕ) → checkAssertion plan i blankAssertion Secrecy ≡ Accepted → checkAssertion plan j blankAssertion Secrecy ≡ Accepted
-  unfolding checkAssertion
-  blank-alike i j e = go (any (plan .identifiers) (serves plan blankAssertion)) e
-    where
-      go : (b : Bool) → cond b Accepted (broken 17 i 0 255) ≡ Accepted → cond b Accepted (broken 17 j 0 255) ≡ Accepted
-      go true e = refl
-      go false e = absurd (broken-accepted e)
+  quiet : (j : ℕ) → j < t → j < labels .limit → protBy labels place a parts j ≡ Accepted
+  unfolding protBy
+  quiet j h k =
+      let n = neither j h in
+      let w = no-later in
+      let low-enough : j < end = omega (arith, m) in
+      calm place a j (L j) (K j) (parts j) (sym (bare-at j) ∙ n .0)
+      (sym (ap (λ (x : Bool). x && ((L j && K j) && parts j)) (lt-ltb j end low-enough)) ∙ sym (split-at j) ∙ n .1)
 
-  module _ (B : Type 0) (f : Assertion → B) (full : length (map f (policy .assertions)) ≡ 32) where
-    blank-at : (i : ℕ) → 32 ≤ i → each i ≡ checkAssertion plan i blankAssertion Secrecy
-    blank-at i h = ap (λ (a : Assertion). checkAssertion plan i a (a .kind)) (assertion-past B f policy full i h)
+  pub prot-past : labels .limit ≤ t → Accepted ≡ firstBelow (labels .limit) (protBy labels place a parts)
+  prot-past h = sym (below-all (labels .limit) (protBy labels place a parts) (λ j k. quiet j (le-trans k h) k))
 
-    alike : each 32 ≡ Accepted → (i : ℕ) → 32 ≤ i → each i ≡ Accepted
-    alike e i h = blank-at i h ∙ blank-alike 32 i (sym (blank-at 32 (omega arith)) ∙ e)
+  pub prot-none : labels .source < 2 ^ 32 → 32 ≤ t → Accepted ≡ firstBelow (labels .limit) (protBy labels place a parts)
+  unfolding protBy
+  prot-none w h = sym (below-all (labels .limit) (protBy labels place a parts) (λ j k. ⊎-elim
+      (λ g. quiet j (le-trans g h) k)
+      (λ g. ap (λ (x : Bool). tested place a j x (K j) (parts j)) (has-past 32 (labels .source) j w g)) (lt-or-le j 32)))
 
-    pub all-end : (k i : ℕ) → AllSoFar plan policy k i → k ≤ i → Accepted ≡ checkAssertions plan policy
-    unfolding checkAssertions
-    all-end k i s h =
-        let q : i ≡ min (policy .count) 33 = omega (arith, s .whole, s .below) in
-        sym (below-alike (policy .count) 32 each alike (subst (λ (n : ℕ). firstBelow n each ≡ Accepted) q (s .so-far)))
+  there : t < 32 → protBy labels place a parts t ≡ broken (cond (K t) 19 18) place (a .sink) t
+  unfolding protBy
+  there h =
+      let found = sym (has-or t bare split) ∙ ap (λ (k : ℕ). has k (bitOr bare split)) e ∙ lowest-holds 32 (λ j. has j (bitOr bare split)) (subst (λ (k : ℕ). k < 32) e h) in
+      offending place a t (L t) (K t) (parts t) (⊎-elim (λ x. inl (sym (bare-at t) ∙ x))
+      (λ x. inr (and-right (ltb t end) ((L t && K t) && parts t) (sym (split-at t) ∙ x))) (or-cases (has t bare) (has t split) found))
 
-  module _ (k i : ℕ) (s : AllSoFar plan policy k i) where
-    pub all-room : i < k → Fits w8 (i + 1)
-    all-room h = let l = s .whole in omega arith
-
-    module _ (l : i < k) (a : Assertion) (h : a ≡ assertionAt policy i) (v : Verdict) (e : v ≡ checkAssertion plan i a (a .kind)) (b : Bool) (q : b ≡ accepted v) where
-      there : v ≡ each i
-      there = e ∙ ap (λ (x : Assertion). checkAssertion plan i x (x .kind)) h
-
-      pub all-more : b ≡ true → AllSoFar plan policy k (i + 1)
-      all-more f = record { whole = s .whole; below = omega arith; so-far = below-more i each (s .so-far) (sym there ∙ accepted-is v (sym q ∙ f)) }
-
-      pub all-stop : b ≡ false → v ≡ checkAssertions plan policy
-      unfolding checkAssertions
-      all-stop f = let w = s .whole in below-leaves (policy .count) each i v (omega arith) (s .so-far) there b q f
+  pub prot-found : t < 32 → t < labels .limit → (rule : ℕ) → rule ≡ cond (has t (labels .sink)) 19 18
+      → broken rule place (a .sink) t ≡ firstBelow (labels .limit) (protBy labels place a parts)
+  prot-found h k rule q =
+      ap (λ (n : ℕ). broken n place (a .sink) t) q
+      ∙ sym (below-broken (labels .limit) (protBy labels place a parts) t _ k (λ j g. quiet j g (lt-trans g k)) (there h))

@@ -1,82 +1,128 @@
-// Rules 17 to 19 over a plan and a policy. A tag relation is asked only where the labels leave the
-// question open, and its routes are searched anew for each identifier of each assertion.
+// Rules 17 to 19 over a plan and a policy. The layout for the routes is made once and lent to the tag relations, which are
+// asked only where the labels leave the question open; each makes its own searches over it.
 use plan::Assertion;
 use plan::Kind;
 use plan::Plan;
 use plan::Policy;
+use plan::Template;
 use rules::Breach;
 use rules::Verdict;
 ghost use mathlib.Core.Path.{_≡_};
+ghost use mathlib.Core.Bool.{cond, _&&_};
+ghost use Prim.Native.Nat.{ℕ, min};
+ghost use lib.Dec.{ltb};
 ghost use Rattle.lists.specs.Numbers.{every, any};
-ghost use Rattle.plan.specs.Plan.{at};
-ghost use Rattle.rules.specs.Judge.{firstBelow, serves, checkProt, checkAssertion, checkAssertions, wearable};
-ghost use Rattle.assertions.specs.Kept.{spares, keeps};
+ghost use Rattle.mask.specs.Mask.{has, without};
+ghost use Rattle.mask.specs.Sets.{plusBelow};
+ghost use Rattle.route.specs.Layout.{Laid};
+ghost use Rattle.rules.specs.Judge.{firstBelow, checkAssertion, checkAssertions};
+ghost use Rattle.assertions.specs.Lent.{keeps, wearables, labelsOf, joined, parted, servesBy, protBy};
 
-// Whether template x, which may remove what is in neg, is in declass or may not remove t.
-fn keeps(neg: u32, declass: u64, t: u32, x: u8) -> bool
-    ensures { λ r. ⌜ r ≡ spares neg declass t x ⌝ }
-{
-    mask::contains_u64(declass, x) | !mask::contains_u32(neg, t)
+// What an assertion asks of labels: how many identifiers there are, lab Source, lab Sink, and lab Sink with pos Sink
+// added if Sink is at risk.
+struct Labels {
+    limit: u32,
+    source: u32,
+    sink: u32,
+    risked: u32,
 }
 
-// Whether t is in no neg of a template outside declass.
-fn is_kept(plan: Plan, declass: u64, t: u32) -> bool
-    ensures { λ r. ⌜ r ≡ every (plan .count) (keeps plan declass t) ⌝ }
+// lab x, with pos x added if x is at risk.
+fn wearables(x: Template) -> u32
+    ensures { λ r. ⌜ r ≡ wearables x ⌝ }
+{
+    if x.risk {
+        return x.lab | x.pos;
+    }
+    x.lab
+}
+
+fn labels_of(plan: Plan, a: Assertion) -> Labels
+    ensures { λ r. ⌜ r ≡ labelsOf plan a ⌝ }
+{
+    let source = plan::template_at(plan, a.source);
+    let sink = plan::template_at(plan, a.sink);
+    Labels {
+        limit: plan.identifiers,
+        source: source.lab,
+        sink: sink.lab,
+        risked: wearables(sink),
+    }
+}
+
+// What is kept where template x, which may remove what is in neg, is in declass or may not remove it.
+fn keep(kept: u32, neg: u32, declass: u64, x: u8) -> u32
+    ensures { λ r. ⌜ r ≡ cond (has x declass) kept (without kept neg) ⌝ }
+{
+    if mask::contains_u64(declass, x) {
+        return kept;
+    }
+    mask::difference(kept, neg)
+}
+
+// The identifiers of worn that are in no neg of a template outside declass.
+fn find_kept(plan: Plan, worn: u32, declass: u64) -> u32
+    ensures { λ r. ⌜ ((t : ℕ) → has t r ≡ (has t worn && every (plan .count) (keeps plan declass t))) ⌝ }
 {
     let n = plan::capped(plan.count, 64);
+    let mut kept = worn;
     let mut x: u8 = 0;
     while x < n {
         let template = plan.templates[x as usize];
-        if !keeps(template.neg, declass, t, x) {
-            return false;
-        }
+        kept = keep(kept, template.neg, declass, x);
         x += 1;
     }
-    true
+    kept
 }
 
-// lab x.
-fn label_of(plan: Plan, x: u8) -> u32
-    ensures { λ r. ⌜ r ≡ at plan x .lab ⌝ }
+// Rule 17's identifier t: one of those kept, and not risked or not joined.
+fn identifier_serves<'a>(
+    first: &'a [u8; 64],
+    second: &'a [u8; 64],
+    creates: &'a [u32; 64],
+    forks: u64,
+    kept: u32,
+    risked: u32,
+    a: Assertion,
+    t: u32,
+) -> bool
+    ensures { λ r. ⌜ r ≡ servesBy kept risked (joined (now (first .entry)) (now (second .entry)) (now (creates .entry)) forks a) t ⌝ }
 {
-    let template = plan::template_at(plan, x);
-    template.lab
-}
-
-// Whether t is in lab x, with pos x added if x is at risk.
-fn is_wearable(plan: Plan, x: u8, t: u32) -> bool
-    ensures { λ r. ⌜ r ≡ wearable plan x t ⌝ }
-{
-    let template = plan::template_at(plan, x);
-    mask::contains_u32(template.lab, t) | (template.risk & mask::contains_u32(template.pos, t))
-}
-
-// Rule 17's identifier t; worn is the source's lab.
-fn identifier_serves(plan: Plan, a: Assertion, worn: u32, t: u32) -> bool
-    requires { ⌜ worn ≡ at plan (a .source) .lab ⌝ }
-    ensures { λ r. ⌜ r ≡ serves plan a t ⌝ }
-{
-    if !mask::contains_u32(worn, t) {
+    if !mask::contains_u32(kept, t) {
         return false;
     }
-    if !is_kept(plan, a.declass, t) {
-        return false;
-    }
-    if !is_wearable(plan, a.sink, t) {
+    if !mask::contains_u32(risked, t) {
         return true;
     }
-    !route::shares_tag(plan, t, a.source, a.sink, a.anc)
+    let creators = route::creators(creates, t);
+    !route::shares_tag(first, second, forks, creators, a.source, a.sink, a.anc)
 }
 
-// Whether some identifier serves.
-fn some_serves(plan: Plan, a: Assertion) -> bool
-    ensures { λ r. ⌜ r ≡ any (plan .identifiers) (serves plan a) ⌝ }
+// Whether some identifier serves, rising.
+fn some_serves<'a>(
+    first: &'a [u8; 64],
+    second: &'a [u8; 64],
+    creates: &'a [u32; 64],
+    forks: u64,
+    kept: u32,
+    labels: Labels,
+    a: Assertion,
+) -> bool
+    ensures { λ r. ⌜ r ≡ any (labels .limit) (servesBy kept (labels .risked) (joined (now (first .entry)) (now (second .entry)) (now (creates .entry)) forks a)) ⌝ }
 {
-    let m = plan::capped(plan.identifiers as usize, 32);
-    let worn = label_of(plan, a.source);
+    let n = plan::capped(labels.limit as usize, 32);
     let mut t: u8 = 0;
-    while t < m {
-        if identifier_serves(plan, a, worn, t as u32) {
+    while t < n {
+        if identifier_serves(
+            first,
+            second,
+            creates,
+            forks,
+            kept,
+            labels.risked,
+            a,
+            t as u32,
+        ) {
             return true;
         }
         t += 1;
@@ -84,58 +130,121 @@ fn some_serves(plan: Plan, a: Assertion) -> bool
     false
 }
 
-// 18 and 19 of a prot, at identifier t; worn is the source's lab.
-fn check_prot_at(plan: Plan, place: u8, a: Assertion, worn: u32, t: u8) -> Verdict
-    requires { ⌜ worn ≡ at plan (a .source) .lab ⌝ }
-    ensures { λ r. ⌜ r ≡ checkProt plan place a t ⌝ }
+// found, with t where it is asked and parted.
+fn include_parted<'a>(
+    first: &'a [u8; 64],
+    second: &'a [u8; 64],
+    creates: &'a [u32; 64],
+    forks: u64,
+    asked: u32,
+    a: Assertion,
+    found: u32,
+    t: u32,
+) -> u32
+    ensures { λ r. ⌜ r ≡ cond (has t asked && parted (now (first .entry)) (now (second .entry)) (now (creates .entry)) forks a t) (plusBelow 32 found t) found ⌝ }
 {
-    if !mask::contains_u32(worn, t as u32) {
-        return Verdict::Accepted;
+    if !mask::contains_u32(asked, t) {
+        return found;
     }
-    if !mask::contains_u32(label_of(plan, a.sink), t as u32) {
-        return Verdict::Broken(Breach {
-            rule: 18,
-            first: place,
-            second: a.sink,
-            identifier: t,
-        });
+    let creators = route::creators(creates, t);
+    if !route::splits_tag(first, second, forks, creators, a.source, a.sink, a.anc) {
+        return found;
     }
-    if route::splits_tag(plan, t as u32, a.source, a.sink, a.anc) {
-        return Verdict::Broken(Breach {
-            rule: 19,
-            first: place,
-            second: a.sink,
-            identifier: t,
-        });
-    }
-    Verdict::Accepted
+    mask::insert_u32(found, t)
 }
 
-// Identifiers rising, 18 and 19 of each before the next.
-fn check_prot(plan: Plan, place: u8, a: Assertion) -> Verdict
-    ensures { λ r. ⌜ r ≡ firstBelow (plan .identifiers) (checkProt plan place a) ⌝ }
+// The identifiers below the limit, of those asked, that are parted.
+fn find_parted<'a>(
+    first: &'a [u8; 64],
+    second: &'a [u8; 64],
+    creates: &'a [u32; 64],
+    forks: u64,
+    asked: u32,
+    a: Assertion,
+    limit: u32,
+) -> u32
+    ensures { λ r. ⌜ ((t : ℕ) → has t r ≡ (ltb t limit && (has t asked && parted (now (first .entry)) (now (second .entry)) (now (creates .entry)) forks a t))) ⌝ }
 {
-    let m = plan::capped(plan.identifiers as usize, 32);
-    let worn = label_of(plan, a.source);
-    let mut t: u8 = 0;
-    while t < m {
-        let v = check_prot_at(plan, place, a, worn, t);
-        if !rules::is_accepted(v) {
-            return v;
-        }
+    let mut found: u32 = 0;
+    let mut t: u32 = 0;
+    while t < limit {
+        found = include_parted(first, second, creates, forks, asked, a, found, t);
         t += 1;
     }
-    Verdict::Accepted
+    found
+}
+
+fn lesser(a: u32, b: u32) -> u32
+    ensures { λ r. ⌜ r ≡ min a b ⌝ }
+{
+    if a < b {
+        return a;
+    }
+    b
+}
+
+// The rule that identifier t, which offends, breaks: 18 if it is not in lab Sink, else 19.
+fn rule_at(sink: u32, t: u32) -> u8
+    ensures { λ r. ⌜ r ≡ cond (has t sink) 19 18 ⌝ }
+{
+    if mask::contains_u32(sink, t) {
+        return 19;
+    }
+    18
+}
+
+// 18 and 19 of a prot: of both rules' offenders together the lowest, which is 18's if it is not in lab Sink. From 18's
+// lowest on nothing is asked of routes.
+fn check_prot<'a>(
+    first: &'a [u8; 64],
+    second: &'a [u8; 64],
+    creates: &'a [u32; 64],
+    forks: u64,
+    labels: Labels,
+    place: u8,
+    a: Assertion,
+) -> Verdict
+    ensures { λ r. ⌜ r ≡ firstBelow (labels .limit) (protBy labels place a (parted (now (first .entry)) (now (second .entry)) (now (creates .entry)) forks a)) ⌝ }
+{
+    let bare = mask::difference(labels.source, labels.sink);
+    let end = lesser(mask::lowest_item(bare), labels.limit);
+    let asked = labels.source & labels.sink;
+    let split = find_parted(first, second, creates, forks, asked, a, end);
+    let t = mask::lowest_item(bare | split);
+    if 32 <= t {
+        return Verdict::Accepted;
+    }
+    if labels.limit <= t {
+        return Verdict::Accepted;
+    }
+    let rule = rule_at(labels.sink, t);
+    Verdict::Broken(Breach {
+        rule,
+        first: place,
+        second: a.sink,
+        identifier: t as u8,
+    })
 }
 
 // The assertion at a place, by its kind.
-pub fn check_assertion(plan: Plan, place: u8, a: Assertion) -> Verdict
+fn check_assertion<'a>(
+    first: &'a [u8; 64],
+    second: &'a [u8; 64],
+    creates: &'a [u32; 64],
+    forks: u64,
+    plan: Plan,
+    place: u8,
+    a: Assertion,
+) -> Verdict
+    requires { ⌜ Laid plan (now first) (now second) (now creates) forks ⌝ }
     ensures { λ r. ⌜ r ≡ checkAssertion plan place a (a .kind) ⌝ }
 {
+    let labels = labels_of(plan, a);
     let kind = a.kind;
     match kind {
         Kind::Secrecy => {
-            if some_serves(plan, a) {
+            let kept = find_kept(plan, labels.source, a.declass);
+            if some_serves(first, second, creates, forks, kept, labels, a) {
                 return Verdict::Accepted;
             }
             Verdict::Broken(Breach {
@@ -145,19 +254,24 @@ pub fn check_assertion(plan: Plan, place: u8, a: Assertion) -> Verdict
                 identifier: 255,
             })
         }
-        Kind::Prot => check_prot(plan, place, a),
+        Kind::Prot => check_prot(first, second, creates, forks, labels, place, a),
     }
 }
 
-// All assertions in order. Past the 32 places all are blank, and alike: the first of them is enough.
+// All assertions in order, over one layout. Past the 32 places all are blank, and alike: the first of them is enough.
 pub fn check_assertions(plan: Plan, policy: Policy) -> Verdict
     ensures { λ r. ⌜ r ≡ checkAssertions plan policy ⌝ }
 {
+    let laid = route::lay_out(plan);
+    let first = laid.first;
+    let second = laid.second;
+    let creates = laid.creates;
+    let forks = laid.forks;
     let k = plan::capped(policy.count, 33);
     let mut i: u8 = 0;
     while i < k {
         let a = plan::assertion_at(policy, i as usize);
-        let v = check_assertion(plan, i, a);
+        let v = check_assertion(&first, &second, &creates, forks, plan, i, a);
         if !rules::is_accepted(v) {
             return v;
         }

@@ -8,14 +8,14 @@ use mathlib.Core.List.{List, _∷_}
 use mathlib.Core.Option.{Option, none, some}
 use Rattle.plan.specs.declared.Plan.{Plan}
 use Rattle.plan.specs.Plan.{Successor, creates}
-use Rattle.route.specs.Route.{Holds, is, ReachedLacking, Forked, SharedTag, SplitTag}
+use Rattle.route.specs.Route.{Holds, equals, ReachedLacking, Forked, SharedTag, SplitTag}
 use Rattle.promise.specs.History.{Node, nearest}
 use Rattle.promise.proofs.Lineage.{maker, Lacking, Holding, Descent, Routed, lacking?, maker-skip, nearest-skip, nearest-maker, nearest-none, nearest-some, descent-route, young-route}
 use Rattle.promise.proofs.Separation.{Parting, Over}
 
 -- Both lineages have a nearest process at A, and it is the same.
 abbrev pub Kindred : ℕ → List Node → List Node → Type 0
-Kindred A lx ly = (s : ℕ) × (nearest (is A) lx ≡ some s) × (nearest (is A) ly ≡ some s)
+Kindred A lx ly = (s : ℕ) × (nearest (equals A) lx ≡ some s) × (nearest (equals A) ly ≡ some s)
 
 module _ (plan : Plan) (n m : Node) (l k : List Node) where
   -- ---- where they part
@@ -47,9 +47,9 @@ module _ (plan : Plan) (n m : Node) (l k : List Node) where
     -- Equal tags of t: the plan shares the tag, or the two are kin.
     pub parted-shared : (t A : ℕ) → maker (creates plan t) (n ∷ l) ≡ maker (creates plan t) (m ∷ k)
         → SharedTag plan t (n .template) (m .template) A ⊎ Kindred A (n ∷ l) (m ∷ k)
-    parted-shared t A e = pick (lacking? (is A) (a .part-x)) (lacking? (is A) (a .part-y)) (nearest (is A) (a .fork ∷ a .rest)) refl
+    parted-shared t A e = pick (lacking? (equals A) (a .part-x)) (lacking? (equals A) (a .part-y)) (nearest (equals A) (a .fork ∷ a .rest)) refl
       where
-        shared : (Holds (is A) (to-x .list) ⊎ Holds (is A) (to-y .list)) ⊎ ReachedLacking plan A (a .fork .template)
+        shared : (Holds (equals A) (to-x .list) ⊎ Holds (equals A) (to-y .list)) ⊎ ReachedLacking plan A (a .fork .template)
             → SharedTag plan t (n .template) (m .template) A
         shared c = inl (record {
           fork = forked;
@@ -58,18 +58,18 @@ module _ (plan : Plan) (n m : Node) (l k : List Node) where
           ancestor = c;
         })
 
-        pick : Lacking (is A) (a .part-x) ⊎ Holding (is A) (a .part-x) → Lacking (is A) (a .part-y) ⊎ Holding (is A) (a .part-y)
-            → (o : Option ℕ) → nearest (is A) (a .fork ∷ a .rest) ≡ o
+        pick : Lacking (equals A) (a .part-x) ⊎ Holding (equals A) (a .part-x) → Lacking (equals A) (a .part-y) ⊎ Holding (equals A) (a .part-y)
+            → (o : Option ℕ) → nearest (equals A) (a .fork ∷ a .rest) ≡ o
             → SharedTag plan t (n .template) (m .template) A ⊎ Kindred A (n ∷ l) (m ∷ k)
-        pick (inr h) j o q = inl (shared (inl (inl (to-x .holds (is A) h))))
-        pick (inl h) (inr j) o q = inl (shared (inl (inr (to-y .holds (is A) j))))
+        pick (inr h) j o q = inl (shared (inl (inl (to-x .holds (equals A) h))))
+        pick (inl h) (inr j) o q = inl (shared (inl (inr (to-y .holds (equals A) j))))
         pick (inl h) (inl j) none q =
-            inl (shared (inr (to-fork .list, to-fork .route, to-fork .lacks (is A) (nearest-none (is A) (a .fork ∷ a .rest) q))))
+            inl (shared (inr (to-fork .list, to-fork .route, to-fork .lacks (equals A) (nearest-none (equals A) (a .fork ∷ a .rest) q))))
         pick (inl h) (inl j) (some s) q =
             inr (
               s,
-              ap (nearest (is A)) (a .split-x) ∙ (nearest-skip (is A) (a .part-x) (a .fork ∷ a .rest) h ∙ q),
-              ap (nearest (is A)) (a .split-y) ∙ (nearest-skip (is A) (a .part-y) (a .fork ∷ a .rest) j ∙ q),
+              ap (nearest (equals A)) (a .split-x) ∙ (nearest-skip (equals A) (a .part-x) (a .fork ∷ a .rest) h ∙ q),
+              ap (nearest (equals A)) (a .split-y) ∙ (nearest-skip (equals A) (a .part-y) (a .fork ∷ a .rest) j ∙ q),
             )
 
     -- Kin: their tags of t are equal, or the plan splits the tag.
@@ -77,18 +77,18 @@ module _ (plan : Plan) (n m : Node) (l k : List Node) where
         → (maker (creates plan t) (n ∷ l) ≡ maker (creates plan t) (m ∷ k)) ⊎ SplitTag plan t (n .template) (m .template) A
     parted-split t A kin = pick (lacking? (creates plan t) (a .part-x)) (lacking? (creates plan t) (a .part-y))
       where
-        bare : Lacking (is A) (a .part-x) × Lacking (is A) (a .part-y)
-        bare = a .same (is A) (nearest-maker (is A) (n ∷ l) (kin .0) (kin .1) ∙ sym (nearest-maker (is A) (m ∷ k) (kin .0) (kin .2)))
+        bare : Lacking (equals A) (a .part-x) × Lacking (equals A) (a .part-y)
+        bare = a .same (equals A) (nearest-maker (equals A) (n ∷ l) (kin .0) (kin .1) ∙ sym (nearest-maker (equals A) (m ∷ k) (kin .0) (kin .2)))
 
-        common : nearest (is A) (a .fork ∷ a .rest) ≡ some (kin .0)
-        common = sym (nearest-skip (is A) (a .part-x) (a .fork ∷ a .rest) (bare .0)) ∙ (sym (ap (nearest (is A)) (a .split-x)) ∙ kin .1)
+        common : nearest (equals A) (a .fork ∷ a .rest) ≡ some (kin .0)
+        common = sym (nearest-skip (equals A) (a .part-x) (a .fork ∷ a .rest) (bare .0)) ∙ (sym (ap (nearest (equals A)) (a .split-x)) ∙ kin .1)
 
         split : Holds (creates plan t) (to-x .list) ⊎ Holds (creates plan t) (to-y .list) → SplitTag plan t (n .template) (m .template) A
         split c = record {
           fork = forked;
-          under = (to-fork .list, to-fork .route, to-fork .holds (is A) (nearest-some (is A) (a .fork ∷ a .rest) (kin .0) common));
-          lacks-S = to-x .lacks (is A) (bare .0);
-          lacks-K = to-y .lacks (is A) (bare .1);
+          under = (to-fork .list, to-fork .route, to-fork .holds (equals A) (nearest-some (equals A) (a .fork ∷ a .rest) (kin .0) common));
+          lacks-S = to-x .lacks (equals A) (bare .0);
+          lacks-K = to-y .lacks (equals A) (bare .1);
           created = c;
         }
 
@@ -106,7 +106,7 @@ module _ (plan : Plan) (n m : Node) (l k : List Node) where
   pub over-shared : (t A : ℕ) → Descent plan 0 (n ∷ l) → (a : Over plan (n ∷ l) (m ∷ k))
       → maker (creates plan t) (n ∷ l) ≡ maker (creates plan t) (m ∷ k)
       → SharedTag plan t (n .template) (m .template) A ⊎ Kindred A (n ∷ l) (m ∷ k)
-  over-shared t A root a e = pick (lacking? (is A) (a .part)) (nearest (is A) (n ∷ l)) refl
+  over-shared t A root a e = pick (lacking? (equals A) (a .part)) (nearest (equals A) (n ∷ l)) refl
     where
       down : Routed plan (a .X) (m .template) (a .part)
       down = young-route plan (a .X) m k (a .part) (n ∷ l) (a .split) (a .descent)
@@ -117,7 +117,7 @@ module _ (plan : Plan) (n m : Node) (l k : List Node) where
       edge : Successor plan (n .template) (a .X)
       edge = let q : n ≡ a .top = cc (a .begins) in rw q (a .edge)
 
-      shared : Holds (is A) (down .list) ⊎ ReachedLacking plan A (n .template) → SharedTag plan t (n .template) (m .template) A
+      shared : Holds (equals A) (down .list) ⊎ ReachedLacking plan A (n .template) → SharedTag plan t (n .template) (m .template) A
       shared c = inr (record {
         reached = (to-n .list, to-n .route);
         child = a .X;
@@ -128,8 +128,8 @@ module _ (plan : Plan) (n m : Node) (l k : List Node) where
         ancestor = c;
       })
 
-      pick : Lacking (is A) (a .part) ⊎ Holding (is A) (a .part) → (o : Option ℕ) → nearest (is A) (n ∷ l) ≡ o
+      pick : Lacking (equals A) (a .part) ⊎ Holding (equals A) (a .part) → (o : Option ℕ) → nearest (equals A) (n ∷ l) ≡ o
           → SharedTag plan t (n .template) (m .template) A ⊎ Kindred A (n ∷ l) (m ∷ k)
-      pick (inr h) o q = inl (shared (inl (down .holds (is A) h)))
-      pick (inl h) none q = inl (shared (inr (to-n .list, to-n .route, to-n .lacks (is A) (nearest-none (is A) (n ∷ l) q))))
-      pick (inl h) (some s) q = inr (s, q, ap (nearest (is A)) (a .split) ∙ (nearest-skip (is A) (a .part) (n ∷ l) h ∙ q))
+      pick (inr h) o q = inl (shared (inl (down .holds (equals A) h)))
+      pick (inl h) none q = inl (shared (inr (to-n .list, to-n .route, to-n .lacks (equals A) (nearest-none (equals A) (n ∷ l) q))))
+      pick (inl h) (some s) q = inr (s, q, ap (nearest (equals A)) (a .split) ∙ (nearest-skip (equals A) (a .part) (n ∷ l) h ∙ q))

@@ -8,7 +8,7 @@ use lib.Dec.{eqb}
 use Rattle.lists.specs.Numbers.{put}
 use Rattle.mask.specs.Mask.{has}
 use Rattle.plan.specs.{declared.Plan.{Plan}, Plan.{at}}
-use Rattle.route.specs.Route.{is}
+use Rattle.route.specs.Route.{equals}
 use Rattle.machine.specs.declared.Answer.{Answer, the-variants.{Done, Delivered, Held, Refused}}
 use Rattle.machine.specs.Machine.{Process, Machine, Limits, Call, step, send, raise, lower, find, children, run, start}
 
@@ -46,7 +46,7 @@ nearest test (n ∷ rest) = cond (test (n .template)) (some (n .serial)) (neares
 -- executing A on its line is the same."
 abbrev pub Kin : History → ℕ → ℕ → ℕ → Type 0
 Kin H A p q =
-    (s : ℕ) × (nearest (is A) (lineage p (H p)) ≡ some s) × (nearest (is A) (lineage q (H q)) ≡ some s)
+    (s : ℕ) × (nearest (equals A) (lineage p (H p)) ≡ some s) × (nearest (equals A) (lineage q (H q)) ≡ some s)
 
 abbrev pub nobody : Member
 nobody = record { born = false; live = false; moved = false; template = 0; above = []; knows = λ y. false }

@@ -16,7 +16,7 @@ use Rattle.plan.specs.Plan.{at, successors, Among}
 use Rattle.plan.specs.Range.{InRange}
 use Rattle.route.specs.declared.Forks.{Forks}
 use Rattle.route.specs.Route.{Route, Lacks, Holds, Reaches, Branches}
-use Rattle.route.specs.Search.{among, reach, isWay, ways, targets, holds, passes, crosses, branchesCross, onBranches, forkCrosses, leads, anyIn}
+use Rattle.route.specs.Search.{inMask, reach, isWay, ways, targets, arrives, detours, crosses, branchesCross, onBranches, forkCrosses, leads, anyIn}
 use Rattle.route.proofs.Routes.{range-low, Passes, by-way, at-way, ends-low}
 use Rattle.route.proofs.Searches.{reach-exactly, reach-bar}
 use Rattle.route.proofs.Sets.{collect-from, collect-to, meet-from, meet-to}
@@ -69,27 +69,27 @@ anyIn-to test (Z ∷ rest) Y a e =
 
 module _ (plan : Plan) (range : InRange plan) (barred via : ℕ) (bar way : ℕ → Bool)
     (bars : (X : ℕ) → X < 64 → has X barred ≡ bar X) (wayed : (X : ℕ) → X < 64 → has X via ≡ way X) where
-  from-search : (X Y : ℕ) → X < 64 → has Y (reach plan (among barred) X) ≡ true → Reaches plan bar X Y
-  from-search X Y l e = reach-exactly plan range bar X Y l .0 (sym (ap (has Y) (reach-bar plan (among barred) bar bars X)) ∙ e)
+  from-search : (X Y : ℕ) → X < 64 → has Y (reach plan (inMask barred) X) ≡ true → Reaches plan bar X Y
+  from-search X Y l e = reach-exactly plan range bar X Y l .0 (sym (ap (has Y) (reach-bar plan (inMask barred) bar bars X)) ∙ e)
 
-  to-search : (X Y : ℕ) → X < 64 → Reaches plan bar X Y → has Y (reach plan (among barred) X) ≡ true
-  to-search X Y l h = ap (has Y) (reach-bar plan (among barred) bar bars X) ∙ reach-exactly plan range bar X Y l .1 h
+  to-search : (X Y : ℕ) → X < 64 → Reaches plan bar X Y → has Y (reach plan (inMask barred) X) ≡ true
+  to-search X Y l h = ap (has Y) (reach-bar plan (inMask barred) bar bars X) ∙ reach-exactly plan range bar X Y l .1 h
 
   -- A search that met a way to Z has a route to Z that passes one.
-  passes-from : (X Z : ℕ) → X < 64 → passes (reach plan (among barred) X) (record { place = Z; ways = ways 64 plan barred via Z }) ≡ true → Passes plan bar way X Z
-  unfolding passes ways
-  passes-from X Z l e =
-      let w = meet-from (reach plan (among barred) X) (ways 64 plan barred via Z) e in
+  detours-from : (X Z : ℕ) → X < 64 → detours (reach plan (inMask barred) X) (record { place = Z; ways = ways 64 plan barred via Z }) ≡ true → Passes plan bar way X Z
+  unfolding detours ways
+  detours-from X Z l e =
+      let w = meet-from (reach plan (inMask barred) X) (ways 64 plan barred via Z) e in
       let c = collect-from 64 (isWay plan barred via Z) (w .0) (w .3) .1 in
       by-way plan bar way X (w .0) Z (from-search X (w .0) l (w .2)) (sym (wayed (w .0) (w .1)) ∙ both-left _ _ c)
       (from-search (w .0) Z (w .1) (both-right (has (w .0) via) _ c))
 
-  passes-to : (X Z : ℕ) → X < 64 → Passes plan bar way X Z → passes (reach plan (among barred) X) (record { place = Z; ways = ways 64 plan barred via Z }) ≡ true
-  unfolding passes ways
-  passes-to X Z l p =
+  detours-to : (X Z : ℕ) → X < 64 → Passes plan bar way X Z → detours (reach plan (inMask barred) X) (record { place = Z; ways = ways 64 plan barred via Z }) ≡ true
+  unfolding detours ways
+  detours-to X Z l p =
       let w = at-way plan bar way (p .1) (p .2) (p .3) in
       let m = ends-low plan (range-low plan range) (w .2 .1) l in
-      meet-to (reach plan (among barred) X) (ways 64 plan barred via Z) (w .0) m (to-search X (w .0) l (w .2))
+      meet-to (reach plan (inMask barred) X) (ways 64 plan barred via Z) (w .0) m (to-search X (w .0) l (w .2))
       (collect-to 64 (isWay plan barred via Z) (w .0) (le-refl 64) m
       (both-of _ _ (wayed (w .0) m ∙ w .1) (to-search (w .0) Z m (w .3))))
 
@@ -105,34 +105,34 @@ module _ (plan : Plan) (range : InRange plan) (barred via : ℕ) (bar way : ℕ 
       pub led : ((passing ≡ true) × (Holds way to-S ⊎ Holds way to-K)) ⊎ (direct ≡ true)
 
     crosses-from : (one other : ℕ) → one < 64 → other < 64 → (direct passing : Bool)
-        → crosses (targets 64 plan barred via S K) direct passing (reach plan (among barred) one) (reach plan (among barred) other) ≡ true
+        → crosses (targets 64 plan barred via S K) direct passing (reach plan (inMask barred) one) (reach plan (inMask barred) other) ≡ true
         → Crossing one other direct passing
-    unfolding crosses targets holds
+    unfolding crosses targets arrives
     crosses-from one other l k direct passing e = ⊎-elim
         (λ h. let p = both-right direct _ h in
         let g = from-search one S l (both-left _ _ p) in
-        let r = from-search other K k (both-right (has S (reach plan (among barred) one)) _ p) in
+        let r = from-search other K k (both-right (has S (reach plan (inMask barred) one)) _ p) in
         record { to-S = g .0; to-K = r .0; route-S = g .1; route-K = r .1; lacks-S = g .2; lacks-K = r .2; led = inr (both-left _ _ h) })
         (λ h. let yes = both-left passing _ h in ⊎-elim
-        (λ p. let g = passes-from one S l (both-left _ _ p) in
-        let r = from-search other K k (both-right (passes (reach plan (among barred) one) _) _ p) in
+        (λ p. let g = detours-from one S l (both-left _ _ p) in
+        let r = from-search other K k (both-right (detours (reach plan (inMask barred) one) _) _ p) in
         record { to-S = g .0; to-K = r .0; route-S = g .1; route-K = r .1; lacks-S = g .2; lacks-K = r .2; led = inl (yes, inl (g .3)) })
         (λ p. let g = from-search one S l (both-left _ _ p) in
-        let r = passes-from other K k (both-right (has S (reach plan (among barred) one)) _ p) in
+        let r = detours-from other K k (both-right (has S (reach plan (inMask barred) one)) _ p) in
         record { to-S = g .0; to-K = r .0; route-S = g .1; route-K = r .1; lacks-S = g .2; lacks-K = r .2; led = inl (yes, inr (r .3)) })
         (either-cases _ _ (both-right passing _ h)))
         (either-cases _ _ e)
 
     crosses-to : (one other : ℕ) → one < 64 → other < 64 → (direct passing : Bool) → Crossing one other direct passing
-        → crosses (targets 64 plan barred via S K) direct passing (reach plan (among barred) one) (reach plan (among barred) other) ≡ true
-    unfolding crosses targets holds
+        → crosses (targets 64 plan barred via S K) direct passing (reach plan (inMask barred) one) (reach plan (inMask barred) other) ≡ true
+    unfolding crosses targets arrives
     crosses-to one other l k direct passing x =
         let g = to-search one S l (x .to-S, x .route-S, x .lacks-S) in
         let r = to-search other K k (x .to-K, x .route-K, x .lacks-K) in
         ⊎-elim
         (λ p. either-right _ _ (both-of _ _ (p .0) (⊎-elim
-        (λ h. either-left _ _ (both-of _ _ (passes-to one S l (x .to-S, x .route-S, x .lacks-S, h)) r))
-        (λ h. either-right _ _ (both-of _ _ g (passes-to other K k (x .to-K, x .route-K, x .lacks-K, h))))
+        (λ h. either-left _ _ (both-of _ _ (detours-to one S l (x .to-S, x .route-S, x .lacks-S, h)) r))
+        (λ h. either-right _ _ (both-of _ _ g (detours-to other K k (x .to-K, x .route-K, x .lacks-K, h))))
         (p .1))))
         (λ d. either-left _ _ (both-of _ _ d (both-of _ _ g r))) (x .led)
 
@@ -148,7 +148,7 @@ module _ (plan : Plan) (range : InRange plan) (barred via : ℕ) (bar way : ℕ 
         → CrossingAt forks L
     unfolding forkCrosses branchesCross
     fork-from forks L e =
-        let b = branches-from (at plan L .form) (λ Y Z. crosses (targets 64 plan barred via S K) (has L (forks .direct)) (has L (forks .passing)) (reach plan (among barred) Y) (reach plan (among barred) Z)) (both-right (has L (forks .reached)) _ e) in
+        let b = branches-from (at plan L .form) (λ Y Z. crosses (targets 64 plan barred via S K) (has L (forks .direct)) (has L (forks .passing)) (reach plan (inMask barred) Y) (reach plan (inMask barred) Z)) (both-right (has L (forks .reached)) _ e) in
         let low = branches-low (at plan L .form) (range-low plan range L) (b .0) (b .1) (b .2) in
         record {
           one = b .0;
@@ -164,7 +164,7 @@ module _ (plan : Plan) (range : InRange plan) (barred via : ℕ) (bar way : ℕ 
     fork-to forks L x =
         let low = branches-low (at plan L .form) (range-low plan range L) (x .one) (x .other) (x .branches) in
         both-of _ _ (x .stands)
-        (branches-to (at plan L .form) (λ Y Z. crosses (targets 64 plan barred via S K) (has L (forks .direct)) (has L (forks .passing)) (reach plan (among barred) Y) (reach plan (among barred) Z)) (x .one) (x .other) (x .branches)
+        (branches-to (at plan L .form) (λ Y Z. crosses (targets 64 plan barred via S K) (has L (forks .direct)) (has L (forks .passing)) (reach plan (inMask barred) Y) (reach plan (inMask barred) Z)) (x .one) (x .other) (x .branches)
         (crosses-to (x .one) (x .other) (low .0) (low .1) (has L (forks .direct)) (has L (forks .passing)) (x .crossing)))
 
     -- Routes from a successor to K.
@@ -175,14 +175,14 @@ module _ (plan : Plan) (range : InRange plan) (barred via : ℕ) (bar way : ℕ 
       pub led : Holds way to-K ⊎ (direct ≡ true)
 
     pub leads-from : (direct : Bool) (Y : ℕ) → Y < 64 → leads plan barred (targets 64 plan barred via S K .sink) direct Y ≡ true → Leading direct Y
-    unfolding leads targets holds
+    unfolding leads targets arrives
     leads-from direct Y l e = ⊎-elim
         (λ h. let r = from-search Y K l (both-right direct _ h) in record { to-K = r .0; route-K = r .1; lacks-K = r .2; led = inr (both-left _ _ h) })
-        (λ h. let r = passes-from Y K l h in record { to-K = r .0; route-K = r .1; lacks-K = r .2; led = inl (r .3) })
+        (λ h. let r = detours-from Y K l h in record { to-K = r .0; route-K = r .1; lacks-K = r .2; led = inl (r .3) })
         (either-cases _ _ e)
 
     pub leads-to : (direct : Bool) (Y : ℕ) → Y < 64 → Leading direct Y → leads plan barred (targets 64 plan barred via S K .sink) direct Y ≡ true
-    unfolding leads targets holds
+    unfolding leads targets arrives
     leads-to direct Y l x = ⊎-elim
-        (λ h. either-right _ _ (passes-to Y K l (x .to-K, x .route-K, x .lacks-K, h)))
+        (λ h. either-right _ _ (detours-to Y K l (x .to-K, x .route-K, x .lacks-K, h)))
         (λ d. either-left _ _ (both-of _ _ d (to-search Y K l (x .to-K, x .route-K, x .lacks-K)))) (x .led)

@@ -1,7 +1,7 @@
 -- A search over the layout of a plan is the search over the plan: a successor that is lacking stands as 64, which is no
 -- place, so that nothing is entered there. With the searches go the targets, the forks and the successors of the source.
-use Prim.Native.Nat.{ℕ, zero, suc, _^_, _≤_, _<_}
-use mathlib.Core.Path.{_≡_, refl, sym, ap, ap₂, _∙_, fun-ext}
+use Prim.Native.Nat.{ℕ, zero, suc, _≤_, _<_}
+use mathlib.Core.Path.{_≡_, refl, sym, ap, ap₂, subst, _∙_, fun-ext}
 use mathlib.Core.Logic.{⊎-elim}
 use mathlib.Core.Bool.{Bool, true, false, _&&_}
 use mathlib.Core.List.{List, [], _∷_}
@@ -9,12 +9,11 @@ use lib.Bits.{bitAnd}
 use lib.ListN.{getD}
 use Rattle.lists.specs.Numbers.{any}
 use Rattle.lists.specs.Joins.{both, either}
-use Rattle.lists.proofs.Tests.{lt-or-le}
+use Rattle.lists.proofs.Tests.{bool?, passes-fails}
 use Rattle.lists.proofs.Every.{any-ext, any-of}
 use Rattle.lists.proofs.Tabulate.{getD-tabulate, getD-tabulate-past}
 use Rattle.mask.specs.Mask.{has, plus}
-use Rattle.mask.proofs.Items.{has-and, has-none}
-use Rattle.mask.proofs.Width.{has-past}
+use Rattle.mask.proofs.Items.{has-and, has-none, plus-cases}
 use Rattle.plan.specs.declared.Form.{Form}
 use Rattle.plan.specs.declared.Form.the-variants.{End, Go, Either, Both}
 use Rattle.plan.specs.declared.Template.{Template}
@@ -23,7 +22,7 @@ use Rattle.plan.specs.Plan.{blank, at, successors}
 use Rattle.route.specs.declared.Target.{Target}
 use Rattle.route.specs.declared.Targets.{Targets}
 use Rattle.route.specs.declared.Forks.{Forks}
-use Rattle.route.specs.Search.{among, chosen, collect, meet, enterAll, isOpen, enter, reach, ways, targets, holds, passes, crosses, branchesCross, onBranches, forkCrosses, leads, anyIn}
+use Rattle.route.specs.Search.{inMask, ifSo, collect, meet, enterAll, isOpen, enter, reach, ways, targets, arrives, detours, crosses, branchesCross, onBranches, forkCrosses, leads, anyIn}
 use Rattle.route.specs.Layout.{firstOf, secondOf, isFork, firsts, seconds, forked, laidTemplate, laidOut}
 use Rattle.route.proofs.Sets.{collect-bar}
 use Rattle.route.proofs.Searches.{open-low}
@@ -86,9 +85,34 @@ none-meets n = any-of 64 (λ X. both (has X 0) (has X n)) (λ X l. ap (λ (b : B
 -- ---- the searches
 
 nowhere : (plan : Plan) (barred : ℕ → Bool) (depth seen : ℕ) → enter plan barred depth seen 64 ≡ seen
-unfolding enter isOpen both chosen
+unfolding enter isOpen both ifSo
 nowhere plan barred zero seen = refl
 nowhere plan barred (suc depth) seen = refl
+
+-- What a search reaches is a place.
+abbrev Places : ℕ → Type 0
+Places m = (Y : ℕ) → has Y m ≡ true → Y < 64
+
+all-places : (f : ℕ → ℕ → ℕ) → ((seen X : ℕ) → Places seen → Places (f seen X)) → (list : List ℕ) (seen : ℕ) → Places seen → Places (enterAll f seen list)
+unfolding enterAll
+all-places f g [] seen p = p
+all-places f g (Y ∷ rest) seen p = all-places f g rest (f seen Y) (g seen Y p)
+
+enter-places : (plan : Plan) (barred : ℕ → Bool) (depth seen X : ℕ) → Places seen → Places (enter plan barred depth seen X)
+unfolding enter ifSo
+enter-places plan barred zero seen X p = p
+enter-places plan barred (suc depth) seen X p = go (enter-places plan barred depth) (isOpen barred seen X) refl
+  where
+    go : ((seen X : ℕ) → Places seen → Places (enter plan barred depth seen X)) → (b : Bool) → isOpen barred seen X ≡ b
+        → Places (ifSo b seen (λ _. enterAll (enter plan barred depth) (plus seen X) (successors (at plan X .form))))
+    go ih true e =
+        all-places (enter plan barred depth) ih (successors (at plan X .form)) (plus seen X)
+        (λ Y h. ⊎-elim (p Y) (λ q. subst (λ (Z : ℕ). Z < 64) (sym q) (open-low barred seen X e)) (plus-cases seen X Y h))
+    go ih false e = p
+
+reach-low : (plan : Plan) (barred : ℕ → Bool) (X : ℕ) → Places (reach plan barred X)
+unfolding reach
+reach-low plan barred X = enter-places plan barred 64 0 X (λ Y e. absurd (passes-fails (has Y 0) e (has-none Y)))
 
 module _ (plan : Plan) where
   abbrev laid : Plan
@@ -101,13 +125,13 @@ module _ (plan : Plan) where
       ∙ ap₂ Both (getD-tabulate 64 (λ X. firstOf (at plan X .form)) X 0 l) (getD-tabulate 64 (λ X. secondOf (at plan X .form)) X 0 l)
 
   enter-laid : (barred : ℕ → Bool) (depth seen X : ℕ) → enter laid barred depth seen X ≡ enter plan barred depth seen X
-  unfolding enter chosen successors
+  unfolding enter ifSo successors
   enter-laid barred zero seen X = refl
   enter-laid barred (suc depth) seen X = go (fun-ext (λ s. fun-ext (λ Y. enter-laid barred depth s Y))) (isOpen barred seen X) refl
     where
       go : enter laid barred depth ≡ enter plan barred depth → (b : Bool) → isOpen barred seen X ≡ b
-          → chosen b seen (λ _. enterAll (enter laid barred depth) (plus seen X) (successors (at laid X .form)))
-          ≡ chosen b seen (λ _. enterAll (enter plan barred depth) (plus seen X) (successors (at plan X .form)))
+          → ifSo b seen (λ _. enterAll (enter laid barred depth) (plus seen X) (successors (at laid X .form)))
+          ≡ ifSo b seen (λ _. enterAll (enter plan barred depth) (plus seen X) (successors (at plan X .form)))
       go ih true e =
           ap (λ (f : ℕ → ℕ → ℕ). enterAll f (plus seen X) (successors (at laid X .form))) ih
           ∙ ap (λ (form : Form). enterAll (enter plan barred depth) (plus seen X) (successors form)) (laid-is X (open-low barred seen X e))
@@ -123,7 +147,7 @@ module _ (plan : Plan) where
   pub targets-laid : (barred via S K : ℕ) → targets 64 laid barred via S K ≡ targets 64 plan barred via S K
   unfolding targets ways
   targets-laid barred via S K =
-      ap (λ (f : ℕ → ℕ). targets-by f) (fun-ext (λ W. reach-laid (among barred) W))
+      ap (λ (f : ℕ → ℕ). targets-by f) (fun-ext (λ W. reach-laid (inMask barred) W))
     where
       targets-by : (ℕ → ℕ) → Targets
       targets-by f = record {
@@ -135,11 +159,11 @@ module _ (plan : Plan) where
       → branchesCross laid barred to direct passing Y Z ≡ branchesCross plan barred to direct passing Y Z
   unfolding branchesCross
   branches-laid barred to direct passing Y Z =
-      ap₂ (λ (m n : ℕ). either (crosses to direct passing m n) (crosses to direct passing n m)) (reach-laid (among barred) Y) (reach-laid (among barred) Z)
+      ap₂ (λ (m n : ℕ). either (crosses to direct passing m n) (crosses to direct passing n m)) (reach-laid (inMask barred) Y) (reach-laid (inMask barred) Z)
 
   leads-laid : (barred : ℕ) (to : Target) (direct : Bool) (Y : ℕ) → leads laid barred to direct Y ≡ leads plan barred to direct Y
   unfolding leads
-  leads-laid barred to direct Y = ap (λ (m : ℕ). either (both direct (holds m to)) (passes m to)) (reach-laid (among barred) Y)
+  leads-laid barred to direct Y = ap (λ (m : ℕ). either (both direct (arrives m to)) (detours m to)) (reach-laid (inMask barred) Y)
 
   -- ---- the forks: of those reached, the templates that are a `both`
 
@@ -161,22 +185,25 @@ module _ (plan : Plan) where
   -- ---- the successors of the source, which is a place where the root reaches it
 
   leads-nowhere : (barred : ℕ) (to : Target) (direct : Bool) → leads plan barred to direct 64 ≡ false
-  unfolding leads holds passes reach
+  unfolding leads arrives detours reach
   leads-nowhere barred to direct =
-      ap (λ (m : ℕ). either (both direct (has (to .place) m)) (meet m (to .ways))) (nowhere plan (among barred) 64 0)
+      ap (λ (m : ℕ). either (both direct (has (to .place) m)) (meet m (to .ways))) (nowhere plan (inMask barred) 64 0)
       ∙ ap₂ either (ap (both direct) (has-none (to .place)) ∙ both-never direct) (none-meets (to .ways)) ∙ either-never
 
-  module _ (barred : ℕ) (to : Target) (direct : Bool) (root S : ℕ) (low : root < 2 ^ 64) where
+  module _ (barred : ℕ) (to : Target) (direct : Bool) (S : ℕ) where
+    abbrev root : Bool
+    root = has S (reach plan (inMask 0) 0)
+
     abbrev down : Plan → Bool
     down p = anyIn (leads p barred to direct) (successors (at p S .form))
 
-    pub down-laid : (has S root && down laid) ≡ (has S root && down plan)
+    pub down-laid : (has S (reach plan (inMask 0) 0) && down laid) ≡ (has S (reach plan (inMask 0) 0) && down plan)
     unfolding successors
     down-laid = ⊎-elim
-        (λ l. ap (λ (b : Bool). has S root && b)
+        (λ e. let l = reach-low plan (inMask 0) 0 S e in
+        ap (λ (b : Bool). root && b)
         (ap (λ (form : Form). anyIn (leads laid barred to direct) (successors form)) (laid-is S l)
         ∙ ap (λ (test : ℕ → Bool). anyIn test (firstOf (at plan S .form) ∷ secondOf (at plan S .form) ∷ [])) (fun-ext (leads-laid barred to direct))
         ∙ padded-any (leads plan barred to direct) (leads-nowhere barred to direct) (at plan S .form)))
-        (λ h. let never = has-past 64 root S low h in
-        ap (λ (b : Bool). b && down laid) never ∙ sym (ap (λ (b : Bool). b && down plan) never))
-        (lt-or-le S 64)
+        (λ never. ap (λ (b : Bool). b && down laid) never ∙ sym (ap (λ (b : Bool). b && down plan) never))
+        (bool? root)

@@ -6,4 +6,5 @@ pub mod Crossings
 pub mod Exact
 pub mod Steps
 pub mod Entering
+pub mod Laying
 pub mod Answers

@@ -19,7 +19,7 @@ use Rattle.plan.specs.declared.Plan.{Plan}
 use Rattle.plan.specs.Plan.{at, successors, Among, Successor}
 use Rattle.plan.specs.Range.{InRange}
 use Rattle.route.specs.Route.{Reaches}
-use Rattle.route.specs.Search.{chosen, enterAll, isOpen, enter, reach}
+use Rattle.route.specs.Search.{ifSo, enterAll, isOpen, enter, reach}
 use Rattle.route.proofs.Routes.{Low, range-low, starts-lacking, reaches-alone, reaches-onward, along}
 
 -- Each item of a is in b.
@@ -74,12 +74,12 @@ module _ (plan : Plan) (barred : ℕ → Bool) where
 
   -- What was seen stays seen.
   pub enter-grows : (depth seen X : ℕ) → Grows seen (enter plan barred depth seen X)
-  unfolding enter chosen
+  unfolding enter ifSo
   enter-grows zero seen X i e = e
   enter-grows (suc depth) seen X i e = go (enter-grows depth) (isOpen barred seen X)
     where
       go : ((seen X : ℕ) → Grows seen (enter plan barred depth seen X)) → (b : Bool)
-          → has i (chosen b seen (λ _. enterAll (enter plan barred depth) (plus seen X) (successors (at plan X .form)))) ≡ true
+          → has i (ifSo b seen (λ _. enterAll (enter plan barred depth) (plus seen X) (successors (at plan X .form)))) ≡ true
       go ih true = all-grow (enter plan barred depth) ih (successors (at plan X .form)) (plus seen X) i (plus-within seen X i e)
       go ih false = e
 
@@ -137,12 +137,12 @@ module _ (plan : Plan) (barred : ℕ → Bool) where
         more-entered seen (f seen Y) (enterAll f (f seen Y) rest) Y rest v (all-entered depth f ih rest (f seen Y) less (λ Z a. b Z (inr a)))
 
     entered : (depth seen X : ℕ) → left seen ≤ depth → X < 64 → Entered seen (enter plan barred depth seen X) X
-    unfolding enter chosen
+    unfolding enter ifSo
     entered zero seen X h l = left-out seen X (inr (full seen X h l))
     entered (suc depth) seen X h l = go (entered depth) (isOpen barred seen X) refl
       where
         go : ((seen X : ℕ) → left seen ≤ depth → X < 64 → Entered seen (enter plan barred depth seen X) X) → (b : Bool) → isOpen barred seen X ≡ b
-            → Entered seen (chosen b seen (λ _. enterAll (enter plan barred depth) (plus seen X) (successors (at plan X .form)))) X
+            → Entered seen (ifSo b seen (λ _. enterAll (enter plan barred depth) (plus seen X) (successors (at plan X .form)))) X
         go ih true e =
             let less : left (plus seen X) ≤ depth = omega (arith, left-plus seen X l (open-fresh barred seen X e)) in
             taken-in seen (enterAll (enter plan barred depth) (plus seen X) (successors (at plan X .form))) X (open-free barred seen X e)
@@ -173,17 +173,17 @@ module _ (plan : Plan) (barred : ℕ → Bool) where
       all-same depth f g w e rest (f seen Y) less ∙ ap (λ (after : ℕ). enterAll g after rest) (e seen Y h)
 
   deeper : (depth seen X : ℕ) → left seen ≤ depth → enter plan barred depth seen X ≡ enter plan barred (suc depth) seen X
-  unfolding enter chosen
+  unfolding enter ifSo
   deeper zero seen X h = go (isOpen barred seen X) refl
     where
-      go : (b : Bool) → isOpen barred seen X ≡ b → seen ≡ chosen b seen (λ _. enterAll (enter plan barred zero) (plus seen X) (successors (at plan X .form)))
+      go : (b : Bool) → isOpen barred seen X ≡ b → seen ≡ ifSo b seen (λ _. enterAll (enter plan barred zero) (plus seen X) (successors (at plan X .form)))
       go true e = absurd (passes-fails (has X seen) (full seen X h (open-low barred seen X e)) (open-fresh barred seen X e))
       go false e = refl
   deeper (suc depth) seen X h = go (deeper depth) (isOpen barred seen X) refl
     where
       go : ((seen X : ℕ) → left seen ≤ depth → enter plan barred depth seen X ≡ enter plan barred (suc depth) seen X) → (b : Bool) → isOpen barred seen X ≡ b
-          → chosen b seen (λ _. enterAll (enter plan barred depth) (plus seen X) (successors (at plan X .form)))
-          ≡ chosen b seen (λ _. enterAll (enter plan barred (suc depth)) (plus seen X) (successors (at plan X .form)))
+          → ifSo b seen (λ _. enterAll (enter plan barred depth) (plus seen X) (successors (at plan X .form)))
+          ≡ ifSo b seen (λ _. enterAll (enter plan barred (suc depth)) (plus seen X) (successors (at plan X .form)))
       go ih true e =
           let less : left (plus seen X) ≤ depth = omega (arith, left-plus seen X (open-low barred seen X e) (open-fresh barred seen X e)) in
           all-same depth (enter plan barred depth) (enter plan barred (suc depth)) (enter-grows depth) ih (successors (at plan X .form)) (plus seen X) less
@@ -191,15 +191,15 @@ module _ (plan : Plan) (barred : ℕ → Bool) where
 
   -- The search by its own equations: a template that is not open, and one that is.
   pub enter-shut : (seen X : ℕ) → isOpen barred seen X ≡ false → enter plan barred 64 seen X ≡ seen
-  unfolding enter chosen
-  enter-shut seen X e = ap (λ (b : Bool). chosen b seen (λ _. enterAll (enter plan barred 63) (plus seen X) (successors (at plan X .form)))) e
+  unfolding enter ifSo
+  enter-shut seen X e = ap (λ (b : Bool). ifSo b seen (λ _. enterAll (enter plan barred 63) (plus seen X) (successors (at plan X .form)))) e
 
   pub enter-open : (seen X : ℕ) → isOpen barred seen X ≡ true
       → enter plan barred 64 seen X ≡ enterAll (enter plan barred 64) (plus seen X) (successors (at plan X .form))
-  unfolding enter chosen
+  unfolding enter ifSo
   enter-open seen X e =
       let less : left (plus seen X) ≤ 63 = omega (arith, left-plus seen X (open-low barred seen X e) (open-fresh barred seen X e)) in
-      ap (λ (b : Bool). chosen b seen (λ _. enterAll (enter plan barred 63) (plus seen X) (successors (at plan X .form)))) e
+      ap (λ (b : Bool). ifSo b seen (λ _. enterAll (enter plan barred 63) (plus seen X) (successors (at plan X .form)))) e
       ∙ all-same 63 (enter plan barred 63) (enter plan barred 64) (enter-grows 63) (deeper 63) (successors (at plan X .form)) (plus seen X) less
 
   -- Entering a template that is open leaves fewer, and entering any leaves no more.
@@ -226,9 +226,9 @@ module _ (plan : Plan) (p q : ℕ → Bool) (same : (X : ℕ) → X < 64 → p X
   enter-bar (suc depth) seen X = go (fun-ext (λ s. fun-ext (λ Y. enter-bar depth s Y)))
     where
       go : enter plan p depth ≡ enter plan q depth
-          → chosen (isOpen p seen X) seen (λ _. enterAll (enter plan p depth) (plus seen X) (successors (at plan X .form)))
-          ≡ chosen (isOpen q seen X) seen (λ _. enterAll (enter plan q depth) (plus seen X) (successors (at plan X .form)))
-      go ih i = chosen (open-bar seen X i) seen (λ _. enterAll (ih i) (plus seen X) (successors (at plan X .form)))
+          → ifSo (isOpen p seen X) seen (λ _. enterAll (enter plan p depth) (plus seen X) (successors (at plan X .form)))
+          ≡ ifSo (isOpen q seen X) seen (λ _. enterAll (enter plan q depth) (plus seen X) (successors (at plan X .form)))
+      go ih i = ifSo (open-bar seen X i) seen (λ _. enterAll (ih i) (plus seen X) (successors (at plan X .form)))
 
   pub reach-bar : (X : ℕ) → reach plan p X ≡ reach plan q X
   unfolding reach

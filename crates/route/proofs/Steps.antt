@@ -2,7 +2,7 @@
 -- premises.
 use Prim.Native.Nat.{ℕ, _+_, _^_, _<_, _≤_}
 use mathlib.Core.Path.{_≡_, refl, sym, ap, ap₂, _∙_}
-use mathlib.Core.Logic.{_↔_, ⊎-elim}
+use mathlib.Core.Logic.{⊎-elim}
 use mathlib.Core.List.{List}
 use mathlib.Core.Bool.{Bool, true, false, not, cond, _&&_, _||_, or-false}
 use native.Mathlib.Nat.{lt-of-le-of-lt}
@@ -22,34 +22,31 @@ use Rattle.mask.proofs.Items.{has-and, has-none}
 use Rattle.mask.proofs.Width.{empty}
 use Rattle.plan.specs.declared.Form.{Form}
 use Rattle.plan.specs.declared.Plan.{Plan}
-use Rattle.plan.specs.Plan.{blank, at, successors, creates}
-use Rattle.plan.specs.Range.{InRange}
-use Rattle.route.specs.Route.{Reaches}
+use Rattle.plan.specs.Plan.{at, successors}
 use Rattle.route.specs.declared.Target.{Target}
 use Rattle.route.specs.declared.Targets.{Targets}
 use Rattle.route.specs.declared.Forks.{Forks}
-use Rattle.route.specs.Search.{among, chosen, including, collect, only, meet, isOpen, enter, reach, isWay, ways, targets, widened, extended, holds, passes, crosses, branchesCross, onBranches, forkCrosses, leads, anyIn}
-use Rattle.route.specs.Layout.{isFork, firsts, seconds, forked, laidOut}
+use Rattle.route.specs.Search.{inMask, ifSo, including, collect, only, meet, isOpen, enter, reach, isWay, ways, targets, widened, extended, arrives, detours, crosses, branchesCross, onBranches, forkCrosses, leads, anyIn}
+use Rattle.route.specs.Layout.{madeBy, laidOut}
 use Rattle.route.proofs.Sets.{meet-from}
-use Rattle.route.proofs.Searches.{reach-exactly}
-use Rattle.route.proofs.Layouts.{laid-form, laid-past, reach-laid}
+use Rattle.route.proofs.Layouts.{laid-form, laid-past}
 
 -- ---- masks
 
 pub included : (m x r : ℕ) (wanted : Bool) → wanted ≡ true → r ≡ plusBelow 64 m x → r ≡ including m x wanted
-unfolding including chosen both plusBelow
+unfolding including ifSo both plusBelow
 included m x r wanted e h = h ∙ go (ltb x 64) ∙ ap (including m x) (sym e)
   where
-    go : (b : Bool) → cond b (plus m x) m ≡ chosen (both b true) m (λ _. plus m x)
+    go : (b : Bool) → cond b (plus m x) m ≡ ifSo (both b true) m (λ _. plus m x)
     go true = refl
     go false = refl
 
 -- What is not wanted changes nothing.
 pub not-included : (m x : ℕ) (wanted : Bool) → wanted ≡ false → m ≡ including m x wanted
-unfolding including chosen both
+unfolding including ifSo both
 not-included m x wanted e = go (ltb x 64) ∙ ap (including m x) (sym e)
   where
-    go : (b : Bool) → m ≡ chosen (both b false) m (λ _. plus m x)
+    go : (b : Bool) → m ≡ ifSo (both b false) m (λ _. plus m x)
     go true = refl
     go false = refl
 
@@ -72,31 +69,16 @@ meet-is m n l = same-test (not (eqb (bitAnd m n) 0)) (meet m n)
 
 -- ---- what is open
 
-pub open-is : (x barred seen : ℕ) (s b : Bool) → s ≡ has x seen → b ≡ has x barred → (ltb x 64 && (not s && not b)) ≡ isOpen (among barred) seen x
+pub open-is : (x barred seen : ℕ) (s b : Bool) → s ≡ has x seen → b ≡ has x barred → (ltb x 64 && (not s && not b)) ≡ isOpen (inMask barred) seen x
 unfolding isOpen both
 open-is x barred seen s b p q = ap₂ (λ (u v : Bool). ltb x 64 && (not u && not v)) p q
 
 -- ---- a search
 
-pub search-laid : (first second : List ℕ) (start barred r : ℕ) → r ≡ enter (laidOut first second) (among barred) 64 0 start
-    → r ≡ reach (laidOut first second) (among barred) start
+pub search-laid : (first second : List ℕ) (start barred r : ℕ) → r ≡ enter (laidOut first second) (inMask barred) 64 0 start
+    → r ≡ reach (laidOut first second) (inMask barred) start
 unfolding reach
 search-laid first second start barred r e = e
-
--- The layout of a plan, as it was laid out.
-pub laid-as : (plan : Plan) (first second : List ℕ) → first ≡ firsts plan → second ≡ seconds plan → laidOut first second ≡ laidOut (firsts plan) (seconds plan)
-laid-as plan first second p q = ap₂ laidOut p q
-
-pub search-is : (plan : Plan) (first second : List ℕ) (start barred r : ℕ) → first ≡ firsts plan → second ≡ seconds plan
-    → r ≡ reach (laidOut first second) (among barred) start
-    → (r ≡ reach plan (among barred) start) × (InRange plan → start < 64 → (X : ℕ) → (has X r ≡ true) ↔ Reaches plan (among barred) start X)
-search-is plan first second start barred r p q h =
-    let e = h ∙ ap (λ (u : Plan). reach u (among barred) start) (laid-as plan first second p q) ∙ reach-laid plan (among barred) start in (
-      e,
-      λ range low X.
-          let exact = reach-exactly plan range (among barred) start X low in
-          ((λ h. exact .0 (ap (has X) (sym e) ∙ h)), (λ h. ap (has X) e ∙ exact .1 h)),
-    )
 
 -- ---- the templates that pass a test, as a loop collects them
 
@@ -112,16 +94,11 @@ collect-more test n found r wanted e w h = h ∙ ap₂ (λ (m : ℕ) (b : Bool).
 pub collect-end : (test : ℕ → Bool) (n found : ℕ) → n ≤ 64 → 64 ≤ n → found ≡ collect n test → found ≡ collect 64 test
 collect-end test n found l g e = let q : n ≡ 64 = omega arith in e ∙ ap (λ (k : ℕ). collect k test) q
 
--- The same where the test is made of the template that stands in the array.
-pub creators-more : (plan : Plan) (t n found r : ℕ) (wanted : Bool) → found ≡ collect n (creates plan t) → wanted ≡ has t (getD (plan .templates) n blank .creates)
-    → r ≡ including found n wanted → r ≡ collect (n + 1) (creates plan t)
-unfolding creates at
-creators-more plan t n found r wanted e w h = collect-more (creates plan t) n found r wanted e w h
-
-pub forks-more : (plan : Plan) (n found r : ℕ) (wanted : Bool) → found ≡ collect n (forked plan) → wanted ≡ isFork (getD (plan .templates) n blank .form)
-    → r ≡ including found n wanted → r ≡ collect (n + 1) (forked plan)
-unfolding forked at
-forks-more plan n found r wanted e w h = collect-more (forked plan) n found r wanted e w h
+-- The same where the test is made of the mask that stands in the array.
+pub creators-more : (masks : List ℕ) (t n found r : ℕ) (wanted : Bool) → found ≡ collect n (madeBy masks t) → wanted ≡ has t (getD masks n 0)
+    → r ≡ including found n wanted → r ≡ collect (n + 1) (madeBy masks t)
+unfolding madeBy
+creators-more masks t n found r wanted e w h = collect-more (madeBy masks t) n found r wanted e w h
 
 -- ---- the targets
 
@@ -137,7 +114,7 @@ not-widened to x wanted e = ap (λ (w : ℕ). record { place = to .place; ways =
 module _ (plan : Plan) (barred via : ℕ) (to : Targets) (x : ℕ) (v : Bool) (asked : v ≡ has x via) where
   no-way : not v ≡ true → (place : ℕ) → isWay plan barred via place x ≡ false
   unfolding both
-  no-way e place = ap (λ (b : Bool). b && has place (reach plan (among barred) x)) (sym asked ∙ not-true v e)
+  no-way e place = ap (λ (b : Bool). b && has place (reach plan (inMask barred) x)) (sym asked ∙ not-true v e)
 
   pub extend-none : not v ≡ true → to ≡ extended plan barred via to x
   unfolding extended
@@ -146,11 +123,11 @@ module _ (plan : Plan) (barred via : ℕ) (to : Targets) (x : ℕ) (v : Bool) (a
     sink = not-widened (to .sink) x (isWay plan barred via (to .sink .place) x) (no-way e (to .sink .place)) i;
   }
 
-  module _ (e : not v ≡ false) (m : ℕ) (reached : m ≡ reach plan (among barred) x) where
+  module _ (e : not v ≡ false) (m : ℕ) (reached : m ≡ reach plan (inMask barred) x) where
     way : (place : ℕ) (b : Bool) → b ≡ has place m → b ≡ isWay plan barred via place x
     unfolding both
     way place b h =
-        h ∙ ap (has place) reached ∙ sym (ap (λ (u : Bool). u && has place (reach plan (among barred) x)) (sym asked ∙ not-false v e))
+        h ∙ ap (has place) reached ∙ sym (ap (λ (u : Bool). u && has place (reach plan (inMask barred) x)) (sym asked ∙ not-false v e))
 
     pub extend-some : (a b : Bool) (source sink : Target) → a ≡ has (to .source .place) m → source ≡ widened (to .source) x a
         → b ≡ has (to .sink .place) m → sink ≡ widened (to .sink) x b
@@ -180,11 +157,11 @@ targets-end plan barred via S K n to l g e = let q : n ≡ 64 = omega arith in e
 pub crosses-is : (to : Targets) (direct passing : Bool) (m n : ℕ) (a b c d : Bool) → a ≡ has (to .source .place) m → b ≡ has (to .sink .place) n
     → c ≡ meet m (to .source .ways) → d ≡ meet n (to .sink .ways)
     → ((direct && (a && b)) || (passing && ((c && b) || (a && d)))) ≡ crosses to direct passing m n
-unfolding crosses holds passes both either
+unfolding crosses arrives detours both either
 crosses-is to direct passing m n a b c d p q h k i = (direct && (p i && q i)) || (passing && ((h i && q i) || (p i && k i)))
 
 pub branches-cross-is : (plan : Plan) (barred : ℕ) (to : Targets) (direct passing : Bool) (y z m n : ℕ) (a b : Bool)
-    → m ≡ reach plan (among barred) y → n ≡ reach plan (among barred) z → a ≡ crosses to direct passing m n → b ≡ crosses to direct passing n m
+    → m ≡ reach plan (inMask barred) y → n ≡ reach plan (inMask barred) z → a ≡ crosses to direct passing m n → b ≡ crosses to direct passing n m
     → (a || b) ≡ branchesCross plan barred to direct passing y z
 unfolding branchesCross either
 branches-cross-is plan barred to direct passing y z m n a b p q h k =
@@ -214,9 +191,9 @@ any-more test n found t e h = ap (λ (b : Bool). found || b) h ∙ any-acc n tes
 pub any-all : (test : ℕ → Bool) (n : ℕ) (found : Bool) → n ≤ 64 → 64 ≤ n → found ≡ any n test → found ≡ any 64 test
 any-all test n found l g e = let q : n ≡ 64 = omega arith in e ∙ ap (λ (k : ℕ). any k test) q
 
-pub leads-is : (plan : Plan) (barred : ℕ) (to : Target) (direct : Bool) (y m : ℕ) (a b : Bool) → m ≡ reach plan (among barred) y → a ≡ has (to .place) m → b ≡ meet m (to .ways)
+pub leads-is : (plan : Plan) (barred : ℕ) (to : Target) (direct : Bool) (y m : ℕ) (a b : Bool) → m ≡ reach plan (inMask barred) y → a ≡ has (to .place) m → b ≡ meet m (to .ways)
     → ((direct && a) || b) ≡ leads plan barred to direct y
-unfolding leads holds passes both either
+unfolding leads arrives detours both either
 leads-is plan barred to direct y m a b p q h =
     ap₂ (λ (u v : Bool). (direct && u) || v) q h ∙ ap (λ (k : ℕ). (direct && has (to .place) k) || meet k (to .ways)) p
 

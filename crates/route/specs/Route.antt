@@ -23,8 +23,8 @@ Holds test [] = ⊥
 Holds test (X ∷ rest) = (test X ≡ true) ⊎ Holds test rest
 
 -- The test for one template, A.
-abbrev pub is : ℕ → ℕ → Bool
-is A X = eqb X A
+abbrev pub equals : ℕ → ℕ → Bool
+equals A X = eqb X A
 
 -- Some route leads from X to Z on which no template passes the test.
 abbrev pub Reaches : Plan → (ℕ → Bool) → ℕ → ℕ → Type 0
@@ -35,10 +35,10 @@ abbrev pub Reached : Plan → ℕ → Type 0
 Reached plan X = (route : List ℕ) × Route plan 0 X route
 
 abbrev pub ReachedLacking : Plan → ℕ → ℕ → Type 0
-ReachedLacking plan A X = Reaches plan (is A) 0 X
+ReachedLacking plan A X = Reaches plan (equals A) 0 X
 
 abbrev pub ReachedHolding : Plan → ℕ → ℕ → Type 0
-ReachedHolding plan A X = (route : List ℕ) × Route plan 0 X route × Holds (is A) route
+ReachedHolding plan A X = (route : List ℕ) × Route plan 0 X route × Holds (equals A) route
 
 -- "Its branches are its two successors, in either assignment, also when they are equal."
 abbrev pub Branches : Form → ℕ → ℕ → Type 0
@@ -67,7 +67,7 @@ module _ (plan : Plan) (t S K A : ℕ) where
     pub fork : Forked plan S K
     pub kept-S : Lacks (creates plan t) (fork .to-S)
     pub kept-K : Lacks (creates plan t) (fork .to-K)
-    pub ancestor : (Holds (is A) (fork .to-S) ⊎ Holds (is A) (fork .to-K)) ⊎ ReachedLacking plan A (fork .L)
+    pub ancestor : (Holds (equals A) (fork .to-S) ⊎ Holds (equals A) (fork .to-K)) ⊎ ReachedLacking plan A (fork .L)
 
   -- "S is reached from the root, a route leads from a successor of S to K without C, and either it holds A or some
   -- route from the root to S, ends included, lacks A."
@@ -78,7 +78,7 @@ module _ (plan : Plan) (t S K A : ℕ) where
     pub to-K : List ℕ
     pub route-K : Route plan child K to-K
     pub kept-K : Lacks (creates plan t) to-K
-    pub ancestor : Holds (is A) to-K ⊎ ReachedLacking plan A S
+    pub ancestor : Holds (equals A) to-K ⊎ ReachedLacking plan A S
 
   -- Document 01's Joined (t, S, K, A).
   abbrev pub SharedTag : Type 0
@@ -89,6 +89,6 @@ module _ (plan : Plan) (t S K A : ℕ) where
   pub record SplitTag : Type 0 where
     pub fork : Forked plan S K
     pub under : ReachedHolding plan A (fork .L)
-    pub lacks-S : Lacks (is A) (fork .to-S)
-    pub lacks-K : Lacks (is A) (fork .to-K)
+    pub lacks-S : Lacks (equals A) (fork .to-S)
+    pub lacks-K : Lacks (equals A) (fork .to-K)
     pub created : Holds (creates plan t) (fork .to-S) ⊎ Holds (creates plan t) (fork .to-K)

@@ -17,18 +17,18 @@ use Rattle.route.specs.declared.Forks.{Forks}
 
 -- ---- masks over templates
 
--- X is in the mask m: a bar, or any other test, by a mask. Nothing is barred by `among 0`.
-abbrev pub among : ℕ → ℕ → Bool
-among m X = has X m
+-- X is in the mask m: a bar, or any other test, by a mask. Nothing is barred by `inMask 0`.
+abbrev pub inMask : ℕ → ℕ → Bool
+inMask m X = has X m
 
 -- What f computes where the test holds, else the other.
-unfoldable pub chosen : Bool → ℕ → (Unit {0} → ℕ) → ℕ
-chosen true other f = f tt
-chosen false other f = other
+unfoldable pub ifSo : Bool → ℕ → (Unit {0} → ℕ) → ℕ
+ifSo true other f = f tt
+ifSo false other f = other
 
 -- m with X, where X is wanted and a place of a plan.
 unfoldable pub including : ℕ → ℕ → Bool → ℕ
-including m X wanted = chosen (both (ltb X 64) wanted) m (λ _. plus m X)
+including m X wanted = ifSo (both (ltb X 64) wanted) m (λ _. plus m X)
 
 -- The templates below n that pass a test.
 unfoldable pub collect : ℕ → (ℕ → Bool) → ℕ
@@ -59,7 +59,7 @@ isOpen barred seen X = both (ltb X 64) (both (not (has X seen)) (not (barred X))
 unfoldable pub enter : Plan → (ℕ → Bool) → ℕ → ℕ → ℕ → ℕ
 enter plan barred zero seen X = seen
 enter plan barred (suc depth) seen X =
-    chosen (isOpen barred seen X) seen (λ _. enterAll (enter plan barred depth) (plus seen X) (successors (at plan X .form)))
+    ifSo (isOpen barred seen X) seen (λ _. enterAll (enter plan barred depth) (plus seen X) (successors (at plan X .form)))
 
 -- The mask of the templates that routes from X reach without a barred one.
 unfoldable pub reach : Plan → (ℕ → Bool) → ℕ → ℕ
@@ -69,7 +69,7 @@ reach plan barred X = enter plan barred 64 0 X
 
 -- W is a way to a place: a template of `via` from which routes without a barred one lead there. The ways below n.
 abbrev pub isWay : Plan → ℕ → ℕ → ℕ → ℕ → Bool
-isWay plan barred via place W = both (has W via) (has place (reach plan (among barred) W))
+isWay plan barred via place W = both (has W via) (has place (reach plan (inMask barred) W))
 
 unfoldable pub ways : ℕ → Plan → ℕ → ℕ → ℕ → ℕ
 ways n plan barred via place = collect n (isWay plan barred via place)
@@ -90,11 +90,11 @@ extended plan barred via to W = record {
 }
 
 -- What a search reached holds the target, or a way to it.
-unfoldable pub holds : ℕ → Target → Bool
-holds m to = has (to .place) m
+unfoldable pub arrives : ℕ → Target → Bool
+arrives m to = has (to .place) m
 
-unfoldable pub passes : ℕ → Target → Bool
-passes m to = meet m (to .ways)
+unfoldable pub detours : ℕ → Target → Bool
+detours m to = meet m (to .ways)
 
 -- ---- both relations
 
@@ -102,14 +102,14 @@ passes m to = meet m (to .ways)
 -- routes of which one passes a way where `passing` does.
 unfoldable pub crosses : Targets → Bool → Bool → ℕ → ℕ → Bool
 crosses to direct passing m n =
-    either (both direct (both (holds m (to .source)) (holds n (to .sink))))
-    (both passing (either (both (passes m (to .source)) (holds n (to .sink))) (both (holds m (to .source)) (passes n (to .sink)))))
+    either (both direct (both (arrives m (to .source)) (arrives n (to .sink))))
+    (both passing (either (both (detours m (to .source)) (arrives n (to .sink))) (both (arrives m (to .source)) (detours n (to .sink)))))
 
 -- The branches Y and Z of a fork cross, in either assignment.
 unfoldable pub branchesCross : Plan → ℕ → Targets → Bool → Bool → ℕ → ℕ → Bool
 branchesCross plan barred to direct passing Y Z =
-    let m = reach plan (among barred) Y in
-    let n = reach plan (among barred) Z in
+    let m = reach plan (inMask barred) Y in
+    let n = reach plan (inMask barred) Z in
     either (crosses to direct passing m n) (crosses to direct passing n m)
 
 -- What a test says of the branches of a template, if it is a `both`.
@@ -127,29 +127,34 @@ forkCrosses plan barred to forks L =
 -- Routes from Y lead to the sink.
 unfoldable pub leads : Plan → ℕ → Target → Bool → ℕ → Bool
 leads plan barred to direct Y =
-    let m = reach plan (among barred) Y in
-    either (both direct (holds m to)) (passes m to)
+    let m = reach plan (inMask barred) Y in
+    either (both direct (arrives m to)) (detours m to)
 
 -- A test passes at some template of a list.
 unfoldable pub anyIn : (ℕ → Bool) → List ℕ → Bool
 anyIn test [] = false
 anyIn test (Y ∷ rest) = either (test Y) (anyIn test rest)
 
--- Document 01's Joined as a test: C barred, by way of A. No way is needed at a fork, nor from the source, where the root
--- reaches it without A.
-unfoldable pub sharesTag : Plan → ℕ → ℕ → ℕ → ℕ → Bool
-sharesTag plan t S K A =
-    let barred = collect 64 (creates plan t) in
-    let root = reach plan (among 0) 0 in
-    let lacking = reach plan (among (only A)) 0 in
-    let to = targets 64 plan barred (only A) S K in
-    either (any 64 (forkCrosses plan barred to (record { reached = root; direct = lacking; passing = root })))
-    (both (has S root) (anyIn (leads plan barred (to .sink) (has S lacking)) (successors (at plan S .form))))
+-- Document 01's Joined as a test, over the mask of C: C barred, by way of A. No way is needed at a fork, nor from the
+-- source, where the root reaches it without A. Of the templates of `tried` each `both` is a fork.
+unfoldable pub sharesOver : Plan → ℕ → ℕ → ℕ → ℕ → ℕ → Bool
+sharesOver plan tried C S K A =
+    let root = reach plan (inMask 0) 0 in
+    let lacking = reach plan (inMask (only A)) 0 in
+    let to = targets 64 plan C (only A) S K in
+    either (any 64 (forkCrosses plan C to (record { reached = tried; direct = lacking; passing = root })))
+    (both (has S root) (anyIn (leads plan C (to .sink) (has S lacking)) (successors (at plan S .form))))
 
--- Document 01's Parted as a test: A barred, by way of C, at the forks that are reached from A.
+-- Document 01's Parted as a test, likewise: A barred, by way of C, at the forks that are reached from A.
+unfoldable pub splitsOver : Plan → ℕ → ℕ → ℕ → ℕ → ℕ → Bool
+splitsOver plan tried C S K A =
+    let under = reach plan (inMask 0) A in
+    let to = targets 64 plan (only A) C S K in
+    both (has A (reach plan (inMask 0) 0)) (any 64 (forkCrosses plan (only A) to (record { reached = tried; direct = 0; passing = under })))
+
+-- Both for identifier t: what the root reaches is tried.
+unfoldable pub sharesTag : Plan → ℕ → ℕ → ℕ → ℕ → Bool
+sharesTag plan t S K A = sharesOver plan (reach plan (inMask 0) 0) (collect 64 (creates plan t)) S K A
+
 unfoldable pub splitsTag : Plan → ℕ → ℕ → ℕ → ℕ → Bool
-splitsTag plan t S K A =
-    let root = reach plan (among 0) 0 in
-    let under = reach plan (among 0) A in
-    let to = targets 64 plan (only A) (collect 64 (creates plan t)) S K in
-    both (has A root) (any 64 (forkCrosses plan (only A) to (record { reached = root; direct = 0; passing = under })))
+splitsTag plan t S K A = splitsOver plan (reach plan (inMask 0) 0) (collect 64 (creates plan t)) S K A

@@ -1,19 +1,22 @@
 // The searches over a plan's successors, and both tag relations by them. Each search that a relation names is made,
-// whatever the others found (document 02, U13, counts them). They run over a layout of the plan, two lent arrays of
-// successors, since a plan by value would be copied at each template that is entered.
+// whatever the others found (document 02, U13, counts them). They run over a layout of the plan that is made once and
+// lent, since a plan by value would be copied at each template that is entered.
 use plan::Form;
 use plan::Plan;
 ghost use mathlib.Core.Path.{_≡_};
-ghost use mathlib.Core.Bool.{true};
-ghost use mathlib.Core.Logic.{_↔_};
-ghost use Prim.Native.Nat.{ℕ, _<_};
+ghost use Prim.Native.Nat.{_<_};
 ghost use Rattle.lists.specs.Numbers.{any};
-ghost use Rattle.mask.specs.Mask.{has};
-ghost use Rattle.plan.specs.Plan.{at, successors, creates};
-ghost use Rattle.plan.specs.Range.{InRange};
-ghost use Rattle.route.specs.Route.{Reaches, SharedTag, SplitTag};
-ghost use Rattle.route.specs.Search.{among, including, collect, only, meet, isOpen, enter, reach, widened, extended, targets, crosses, branchesCross, forkCrosses, leads, anyIn, sharesTag, splitsTag};
-ghost use Rattle.route.specs.Layout.{firstOf, secondOf, isFork, firsts, seconds, forked, laidOut};
+ghost use Rattle.plan.specs.Plan.{at, successors};
+ghost use Rattle.route.specs.Search.{inMask, including, collect, only, meet, isOpen, enter, reach, widened, extended, targets, crosses, branchesCross, forkCrosses, leads, anyIn, sharesOver, splitsOver};
+ghost use Rattle.route.specs.Layout.{firstOf, secondOf, isFork, madeBy, allForks, layoutOf, laidOut};
+
+// A plan laid out: the successors of each template, the masks of what each creates, and the forks.
+pub struct Layout {
+    pub first: [u8; 64],
+    pub second: [u8; 64],
+    pub creates: [u32; 64],
+    pub forks: u64,
+}
 
 // A template to be reached, and the mask of the ways that lead to it.
 pub struct Target {
@@ -95,61 +98,42 @@ fn is_fork(form: Form) -> bool
     }
 }
 
-// The layout of a plan: the first successor of each template,
-fn lay_firsts(plan: Plan) -> [u8; 64]
-    ensures { λ r. ⌜ r ≡ firsts plan ⌝ }
+// What stands in each template; as forks, all that are a `both`.
+fn lay_templates(plan: Plan) -> Layout
+    ensures { λ r. ⌜ r ≡ allForks plan ⌝ }
 {
     let mut first = [0u8; 64];
-    let mut i: usize = 0;
-    while i < 64 {
-        let template = plan.templates[i];
-        let form = template.form;
-        first[i] = first_of(form);
-        i += 1;
-    }
-    first
-}
-
-// the second one,
-fn lay_seconds(plan: Plan) -> [u8; 64]
-    ensures { λ r. ⌜ r ≡ seconds plan ⌝ }
-{
     let mut second = [0u8; 64];
-    let mut i: usize = 0;
-    while i < 64 {
-        let template = plan.templates[i];
-        let form = template.form;
-        second[i] = second_of(form);
-        i += 1;
-    }
-    second
-}
-
-// and the templates that are a `both`.
-fn lay_forks(plan: Plan) -> u64
-    ensures { λ r. ⌜ r ≡ collect 64 (forked plan) ⌝ }
-{
-    let mut found: u64 = 0;
+    let mut creates = [0u32; 64];
+    let mut forks: u64 = 0;
     let mut x: u8 = 0;
     while x < 64 {
         let template = plan.templates[x as usize];
         let form = template.form;
-        found = include(found, x, is_fork(form));
+        first[x as usize] = first_of(form);
+        second[x as usize] = second_of(form);
+        creates[x as usize] = template.creates;
+        forks = include(forks, x, is_fork(form));
         x += 1;
     }
-    found
+    Layout {
+        first,
+        second,
+        creates,
+        forks,
+    }
 }
 
 // Whether template x is to be entered: a place of a plan, not seen yet and not barred.
 fn is_open(x: u8, barred: u64, seen: u64) -> bool
-    ensures { λ r. ⌜ r ≡ isOpen (among barred) seen x ⌝ }
+    ensures { λ r. ⌜ r ≡ isOpen (inMask barred) seen x ⌝ }
 {
     (x < 64) & (!mask::contains_u64(seen, x) & !mask::contains_u64(barred, x))
 }
 
 // Depth first: what was seen, with template x, if it is open, and what is entered from its successors.
 fn enter<'a>(first: &'a [u8; 64], second: &'a [u8; 64], x: u8, barred: u64, seen: u64) -> u64
-    ensures { λ r. ⌜ r ≡ enter (laidOut (now (first .entry)) (now (second .entry))) (among barred) 64 seen x ⌝ }
+    ensures { λ r. ⌜ r ≡ enter (laidOut (now (first .entry)) (now (second .entry))) (inMask barred) 64 seen x ⌝ }
 {
     if !is_open(x, barred, seen) {
         return seen;
@@ -162,30 +146,37 @@ fn enter<'a>(first: &'a [u8; 64], second: &'a [u8; 64], x: u8, barred: u64, seen
 
 // The templates that routes from start reach without a barred one.
 fn search_from<'a>(first: &'a [u8; 64], second: &'a [u8; 64], start: u8, barred: u64) -> u64
-    ensures { λ r. ⌜ r ≡ reach (laidOut (now (first .entry)) (now (second .entry))) (among barred) start ⌝ }
+    ensures { λ r. ⌜ r ≡ reach (laidOut (now (first .entry)) (now (second .entry))) (inMask barred) start ⌝ }
 {
     enter(first, second, start, barred, 0)
 }
 
-// The same over a plan.
-pub fn search(plan: Plan, start: u8, barred: u64) -> u64
-    ensures tested { λ r. ⌜ r ≡ reach plan (among barred) start ⌝ }
-    ensures exact { λ r. ⌜ (InRange plan → start < 64 → (X : ℕ) → (has X r ≡ true) ↔ Reaches plan (among barred) start X) ⌝ }
+// The layout of a plan. A fork is reached from the root: one search.
+pub fn lay_out(plan: Plan) -> Layout
+    ensures { λ r. ⌜ r ≡ layoutOf plan ⌝ }
 {
-    let first = lay_firsts(plan);
-    let second = lay_seconds(plan);
-    search_from(&first, &second, start, barred)
+    let laid = lay_templates(plan);
+    let first = laid.first;
+    let second = laid.second;
+    let creates = laid.creates;
+    let root = search_from(&first, &second, 0, 0);
+    Layout {
+        first,
+        second,
+        creates,
+        forks: root & laid.forks,
+    }
 }
 
-// The templates that create identifier t.
-pub fn creators(plan: Plan, t: u32) -> u64
-    ensures { λ r. ⌜ r ≡ collect 64 (creates plan t) ⌝ }
+// The templates that create identifier t, by the masks of what each creates.
+pub fn creators(creates: &[u32; 64], t: u32) -> u64
+    ensures { λ r. ⌜ r ≡ collect 64 (madeBy (now (creates .entry)) t) ⌝ }
 {
     let mut found: u64 = 0;
     let mut x: u8 = 0;
     while x < 64 {
-        let template = plan.templates[x as usize];
-        found = include(found, x, mask::contains_u32(template.creates, t));
+        let made = mask::contains_u32(creates[x as usize], t);
+        found = include(found, x, made);
         x += 1;
     }
     found
@@ -367,52 +358,58 @@ fn some_successor_leads<'a>(
     one | other
 }
 
-// Document 01's Joined (t, S, K, A): C barred, by way of A. No way is needed at a fork, nor from the source, where the
-// root reaches it without A. The searches: the root; the root, A barred; and, C barred, A, both branches of every fork,
-// every successor of the source.
-pub fn shares_tag(plan: Plan, t: u32, source: u8, sink: u8, anc: u8) -> bool
-    ensures tested { λ r. ⌜ r ≡ sharesTag plan t source sink anc ⌝ }
-    ensures exact { λ r. ⌜ (InRange plan → (r ≡ true) ↔ SharedTag plan t source sink anc) ⌝ }
+// Document 01's Joined (t, S, K, A), where creators is C: C barred, by way of A. No way is needed at a fork, nor from the
+// source, where the root reaches it without A. The searches: the root; the root, A barred; and, C barred, A, both branches
+// of every fork, every successor of the source.
+pub fn shares_tag<'a>(
+    first: &'a [u8; 64],
+    second: &'a [u8; 64],
+    forks: u64,
+    creators: u64,
+    source: u8,
+    sink: u8,
+    anc: u8,
+) -> bool
+    ensures { λ r. ⌜ r ≡ sharesOver (laidOut (now (first .entry)) (now (second .entry))) forks creators source sink anc ⌝ }
 {
-    let first = lay_firsts(plan);
-    let second = lay_seconds(plan);
-    let both = lay_forks(plan);
-    let barred = creators(plan, t);
     let way = only(anc);
-    let root = search_from(&first, &second, 0, 0);
-    let lacking = search_from(&first, &second, 0, way);
-    let to = find_targets(&first, &second, barred, way, source, sink);
-    let forks = Forks {
-        reached: root & both,
+    let root = search_from(first, second, 0, 0);
+    let lacking = search_from(first, second, 0, way);
+    let to = find_targets(first, second, creators, way, source, sink);
+    let tried = Forks {
+        reached: forks,
         direct: lacking,
         passing: root,
     };
-    let at_fork = some_fork_crosses(&first, &second, barred, to, forks);
+    let at_fork = some_fork_crosses(first, second, creators, to, tried);
     let target = to.sink;
     let free = mask::contains_u64(lacking, source);
-    let down = some_successor_leads(&first, &second, barred, target, free, source);
+    let down = some_successor_leads(first, second, creators, target, free, source);
     at_fork | (mask::contains_u64(root, source) & down)
 }
 
-// Document 01's Parted (t, S, K, A): A barred, by way of C, at the forks that are reached from A. The searches: the
-// root; A; and, A barred, C if there is one and both branches of every fork.
-pub fn splits_tag(plan: Plan, t: u32, source: u8, sink: u8, anc: u8) -> bool
-    ensures tested { λ r. ⌜ r ≡ splitsTag plan t source sink anc ⌝ }
-    ensures exact { λ r. ⌜ (InRange plan → (r ≡ true) ↔ SplitTag plan t source sink anc) ⌝ }
+// Document 01's Parted (t, S, K, A), where creators is C: A barred, by way of C, at the forks that are reached from A. The
+// searches: the root; A; and, A barred, C if there is one and both branches of every fork.
+pub fn splits_tag<'a>(
+    first: &'a [u8; 64],
+    second: &'a [u8; 64],
+    forks: u64,
+    creators: u64,
+    source: u8,
+    sink: u8,
+    anc: u8,
+) -> bool
+    ensures { λ r. ⌜ r ≡ splitsOver (laidOut (now (first .entry)) (now (second .entry))) forks creators source sink anc ⌝ }
 {
-    let first = lay_firsts(plan);
-    let second = lay_seconds(plan);
-    let both = lay_forks(plan);
     let barred = only(anc);
-    let way = creators(plan, t);
-    let root = search_from(&first, &second, 0, 0);
-    let under = search_from(&first, &second, anc, 0);
-    let to = find_targets(&first, &second, barred, way, source, sink);
-    let forks = Forks {
-        reached: root & both,
+    let root = search_from(first, second, 0, 0);
+    let under = search_from(first, second, anc, 0);
+    let to = find_targets(first, second, barred, creators, source, sink);
+    let tried = Forks {
+        reached: forks,
         direct: 0,
         passing: under,
     };
-    let at_fork = some_fork_crosses(&first, &second, barred, to, forks);
+    let at_fork = some_fork_crosses(first, second, barred, to, tried);
     mask::contains_u64(root, anc) & at_fork
 }

@@ -20,7 +20,7 @@ use Rattle.route.specs.Search.{sharesTag, splitsTag}
 use Rattle.route.proofs.Exact.{shares-exactly, splits-exactly}
 use Rattle.rules.specs.Rules.{Serves, Rule17, Rules18-19, Asked}
 use Rattle.rules.specs.Judge.{Breach, Verdict, Accepted, Broken, serves, checkProt, checkAssertion, checkAssertions, wearable}
-use Rattle.rules.specs.Broken.{breach, EarlierIdentifiers, AssertionBroken, broken17, broken18, broken19}
+use Rattle.rules.specs.Broken.{breach, tested, EarlierIdentifiers, AssertionBroken, broken17, broken18, broken19}
 use Rattle.rules.proofs.Walk.{Decided, broken-accepted, broken-same, below-each, below-all, below-stop, below-decided, below-broken}
 
 or-not : (a b : Bool) → (a || not b) ≡ true → a ≡ false → b ≡ false
@@ -53,10 +53,7 @@ secrecy-decided : (c : Bool) (b : Breach) → Decided (cond c Accepted (Broken b
 secrecy-decided true b = tt
 secrecy-decided false b = tt
 
--- and a prot's at one identifier by its three: worn by the source, worn by the sink, split.
-abbrev tested : ℕ → Assertion → ℕ → Bool → Bool → Bool → Verdict
-tested place a t l k s = cond l (cond k (cond s (Broken (breach 19 place (a .sink) t)) Accepted) (Broken (breach 18 place (a .sink) t))) Accepted
-
+-- and a prot's at one identifier by its three tests.
 module _ (place : ℕ) (a : Assertion) (t : ℕ) where
   tested-accepted : (l k s : Bool) → tested place a t l k s ≡ Accepted → l ≡ true → (k ≡ true) × (s ≡ false)
   tested-accepted true true true e h = absurd (broken-accepted e)

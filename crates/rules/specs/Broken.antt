@@ -3,7 +3,7 @@
 -- Not to be believed beside Judge.antt: the law `broken-first` says that the two are the same.
 use Prim.Native.Nat.{ℕ, _<_}
 use mathlib.Core.Path.{_≡_}
-use mathlib.Core.Bool.{Bool, true, false}
+use mathlib.Core.Bool.{Bool, true, false, cond}
 use mathlib.Core.List.{List, _∷_, _++_}
 use Rattle.mask.specs.Mask.{has}
 use Rattle.plan.specs.declared.Plan.{Plan}
@@ -21,6 +21,10 @@ use Rattle.rules.specs.Judge.{EdgeRule, edgeRules}
 
 abbrev pub breach : ℕ → ℕ → ℕ → ℕ → Breach
 breach rule first second identifier = record { rule = rule; first = first; second = second; identifier = identifier }
+
+-- A prot's verdict at one identifier by three tests: worn by the source, worn by the sink, split.
+abbrev pub tested : ℕ → Assertion → ℕ → Bool → Bool → Bool → Verdict
+tested place a t l k s = cond l (cond k (cond s (Broken (breach 19 place (a .sink) t)) Accepted) (Broken (breach 18 place (a .sink) t))) Accepted
 
 -- 11: "an identifier is created by two templates (lowest identifier; its two lowest templates)".
 pub record CreatedTwice (plan : Plan) (X Y t : ℕ) : Type 0 where

@@ -1,11 +1,17 @@
 -- By the kind, which is that of the arm.
-use Rattle.assertions.proofs.Prot.{secrecy-kept, secrecy-17, prot-kind}
+use Rattle.assertions.proofs.Order.{secrecy-kept, secrecy-17, prot-kind}
 use borrow.Author.Needs.{needs}
 use Rattle.assertions.proofs.check_assertion.Statement.{statement}
 use Rattle.assertions.proofs.check_assertion.Tie as tie
 
+labels-of-requires : tie.Need-labels-of-requires
+labels-of-requires c κs = search needs
+
 enum-told : tie.Need-enum-told
 enum-told c = search needs
+
+find-kept-requires : tie.Need-find-kept-requires
+find-kept-requires c κs = search needs
 
 some-serves-requires : tie.Need-some-serves-requires
 some-serves-requires c κs = search needs
@@ -29,7 +35,9 @@ pub check-assertion-spec : {M : Type 1} → statement M
 check-assertion-spec =
     tie.close
     (tie.spec
+    labels-of-requires
     enum-told
+    find-kept-requires
     some-serves-requires
     returns
     enum-told-2

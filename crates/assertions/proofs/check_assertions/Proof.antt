@@ -1,17 +1,20 @@
 -- So far each assertion is accepted.
 use Prim.Native.Nat.{_-_}
 use borrow.Author.Tests.{not-true, not-false}
-use Rattle.assertions.proofs.Prot.{AllSoFar, all-start, all-room, all-more, all-stop, all-end}
 use native.Mathlib.Omega.{arith}
+use Rattle.assertions.proofs.Order.{AllSoFar, all-start, all-room, all-more, all-stop, all-end}
 use borrow.Author.Needs.{needs}
 use Rattle.assertions.proofs.check_assertions.Statement.{statement}
 use Rattle.assertions.proofs.check_assertions.Tie as tie
 
 abbrev Inv-loop : tie.InvT-loop
-Inv-loop plan policy k i₀ i = AllSoFar plan policy k i
+Inv-loop plan policy first second creates forks k i₀ i = AllSoFar plan policy k i
 
 abbrev μ-loop : tie.MeasureT-loop
-μ-loop plan policy k i₀ i = k - i
+μ-loop plan policy first second creates forks k i₀ i = k - i
+
+lay-out-requires : tie.Need-lay-out-requires Inv-loop μ-loop
+lay-out-requires c κs = search needs
 
 capped-requires : tie.Need-capped-requires Inv-loop μ-loop
 capped-requires c κs = search needs
@@ -41,7 +44,10 @@ loop-less : tie.Need-loop-less Inv-loop μ-loop
 loop-less c = omega arith
 
 loop-again : tie.Need-loop-again Inv-loop μ-loop
-loop-again c = search (all-more, not-false)
+loop-again c =
+    let asked = c .before .before .before .before .before .before in
+    all-more _ _ _ _ (asked .before .before .loop .inv) (omega arith) _ (asked .assertion-at .ensures) _ (c .before .before .check-assertion .ensures) _ (c .before .is-accepted .ensures)
+    (search not-false)
 
 returns-2 : tie.Need-returns-2 Inv-loop μ-loop
 returns-2 c = search all-end
@@ -52,6 +58,7 @@ check-assertions-spec =
     (tie.spec
     Inv-loop
     μ-loop
+    lay-out-requires
     capped-requires
     loop-holds
     cast-assertion-at

@@ -1,65 +1,60 @@
--- So far each identifier is accepted.
-use Prim.Native.Nat.{_-_}
-use borrow.Author.Tests.{not-true, not-false}
+-- By the lowest offender: 32 where there is none, past the limit, or below it.
+use Rattle.assertions.proofs.Prot.{prot-none, prot-past, prot-found}
 use native.Mathlib.Omega.{arith}
-use Rattle.assertions.proofs.Prot.{ProtSoFar, prot-start, prot-room, prot-more, prot-stop, prot-end}
 use borrow.Author.Needs.{needs}
 use Rattle.assertions.proofs.check_prot.Statement.{statement}
 use Rattle.assertions.proofs.check_prot.Tie as tie
 
-abbrev Inv-loop : tie.InvT-loop
-Inv-loop plan place a m worn t₀ t = ProtSoFar plan place a m t
+difference-requires : tie.Need-difference-requires
+difference-requires c κs = search needs
 
-abbrev μ-loop : tie.MeasureT-loop
-μ-loop plan place a m worn t₀ t = m - t
+lowest-item-requires : tie.Need-lowest-item-requires
+lowest-item-requires c κs = search needs
 
-cast-capped : tie.Need-cast-capped Inv-loop μ-loop
-cast-capped c = search needs
+lesser-requires : tie.Need-lesser-requires
+lesser-requires c κs = search needs
 
-capped-requires : tie.Need-capped-requires Inv-loop μ-loop
-capped-requires c κs = search needs
+find-parted-requires : tie.Need-find-parted-requires
+find-parted-requires c κs = search needs
 
-label-of-requires : tie.Need-label-of-requires Inv-loop μ-loop
-label-of-requires c κs = search needs
+lowest-item-requires-2 : tie.Need-lowest-item-requires-2
+lowest-item-requires-2 c κs = search needs
 
-loop-holds : tie.Need-loop-holds Inv-loop μ-loop
-loop-holds c = search prot-start
+returns : tie.Need-returns
+returns c =
+    let found = c .before .before in
+    prot-none _ _ _ _ _ _ _ _ _ (found .before .before .before .before .difference .ensures) (found .before .before .before .lowest-item .ensures) (found .before .before .lesser .ensures)
+    (found .find-parted .ensures) (c .before .lowest-item2 .ensures) (search needs) (omega arith)
 
-check-prot-at-requires : tie.Need-check-prot-at-requires Inv-loop μ-loop
-check-prot-at-requires c κs = search needs
+returns-2 : tie.Need-returns-2
+returns-2 c =
+    let found = c .before .before .before .before in
+    prot-past _ _ _ _ _ _ _ _ _ (found .before .before .before .before .difference .ensures) (found .before .before .before .lowest-item .ensures) (found .before .before .lesser .ensures)
+    (found .find-parted .ensures) (c .before .before .before .lowest-item2 .ensures) (omega arith)
 
-is-accepted-requires : tie.Need-is-accepted-requires Inv-loop μ-loop
-is-accepted-requires c κs = search needs
+rule-at-requires : tie.Need-rule-at-requires
+rule-at-requires c κs = search needs
 
-returns : tie.Need-returns Inv-loop μ-loop
-returns c = search (prot-stop, not-true)
+cast-t16 : tie.Need-cast-t16
+cast-t16 c = search needs
 
-add-t : tie.Need-add-t Inv-loop μ-loop
-add-t c = search prot-room
-
-loop-less : tie.Need-loop-less Inv-loop μ-loop
-loop-less c = omega arith
-
-loop-again : tie.Need-loop-again Inv-loop μ-loop
-loop-again c = search (prot-more, not-false)
-
-returns-2 : tie.Need-returns-2 Inv-loop μ-loop
-returns-2 c = search prot-end
+returns-3 : tie.Need-returns-3
+returns-3 c =
+    let found = c .before .before .before .before .before in
+    prot-found _ _ _ _ _ _ _ _ _ (found .before .before .before .before .difference .ensures) (found .before .before .before .lowest-item .ensures) (found .before .before .lesser .ensures)
+    (found .find-parted .ensures) (c .before .before .before .before .lowest-item2 .ensures) (omega arith) (omega arith) _ (c .rule-at .ensures)
 
 pub check-prot-spec : {M : Type 1} → statement M
 check-prot-spec =
     tie.close
     (tie.spec
-    Inv-loop
-    μ-loop
-    cast-capped
-    capped-requires
-    label-of-requires
-    loop-holds
-    check-prot-at-requires
-    is-accepted-requires
+    difference-requires
+    lowest-item-requires
+    lesser-requires
+    find-parted-requires
+    lowest-item-requires-2
     returns
-    add-t
-    loop-less
-    loop-again
-    returns-2)
+    returns-2
+    rule-at-requires
+    cast-t16
+    returns-3)

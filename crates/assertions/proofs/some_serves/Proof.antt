@@ -1,25 +1,23 @@
 -- So far none serves.
 use Prim.Native.Nat.{_-_}
 use native.Mathlib.Omega.{arith}
+use Rattle.assertions.specs.Lent.{joined}
 use Rattle.assertions.proofs.Serving.{NoneServes, none-start, none-room, none-more, one-serves, none-serves}
 use borrow.Author.Needs.{needs}
 use Rattle.assertions.proofs.some_serves.Statement.{statement}
 use Rattle.assertions.proofs.some_serves.Tie as tie
 
 abbrev Inv-loop : tie.InvT-loop
-Inv-loop plan a m worn t₀ t = NoneServes plan a m t
+Inv-loop first second creates forks kept labels a n t₀ t = NoneServes (labels .limit) kept (labels .risked) (joined first second creates forks a) n t
 
 abbrev μ-loop : tie.MeasureT-loop
-μ-loop plan a m worn t₀ t = m - t
+μ-loop first second creates forks kept labels a n t₀ t = n - t
 
 cast-capped : tie.Need-cast-capped Inv-loop μ-loop
 cast-capped c = search needs
 
 capped-requires : tie.Need-capped-requires Inv-loop μ-loop
 capped-requires c κs = search needs
-
-label-of-requires : tie.Need-label-of-requires Inv-loop μ-loop
-label-of-requires c κs = search needs
 
 loop-holds : tie.Need-loop-holds Inv-loop μ-loop
 loop-holds c = search none-start
@@ -53,7 +51,6 @@ some-serves-spec =
     μ-loop
     cast-capped
     capped-requires
-    label-of-requires
     loop-holds
     cast-identifier-serves
     identifier-serves-requires

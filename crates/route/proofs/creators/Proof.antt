@@ -2,30 +2,30 @@
 use Prim.Native.Nat.{_-_, _≤_}
 use mathlib.Core.Path.{_≡_}
 use native.Mathlib.Omega.{arith}
-use borrow.Author.Needs.{needs}
-use Rattle.plan.specs.Plan.{creates}
 use Rattle.route.specs.Search.{collect}
+use Rattle.route.specs.Layout.{madeBy}
 use Rattle.route.proofs.Steps.{collect-none, creators-more, collect-end}
+use borrow.Author.Needs.{needs}
 use Rattle.route.proofs.creators.Statement.{statement}
 use Rattle.route.proofs.creators.Tie as tie
 
 abbrev Inv-loop : tie.InvT-loop
-Inv-loop t plan found₀ x₀ found x = (x ≤ 64) × (found ≡ collect x (creates plan t))
+Inv-loop creates t found₀ x₀ found x = (x ≤ 64) × (found ≡ collect x (madeBy creates t))
 
 abbrev μ-loop : tie.MeasureT-loop
-μ-loop t plan found₀ x₀ found x = 64 - x
+μ-loop creates t found₀ x₀ found x = 64 - x
 
 loop-holds : tie.Need-loop-holds Inv-loop μ-loop
 loop-holds c = (omega arith, collect-none _)
 
-cast-template : tie.Need-cast-template Inv-loop μ-loop
-cast-template c = search needs
+cast-contains-u32 : tie.Need-cast-contains-u32 Inv-loop μ-loop
+cast-contains-u32 c = search needs
 
-mul-template : tie.Need-mul-template Inv-loop μ-loop
-mul-template c = search needs
+mul-contains-u32 : tie.Need-mul-contains-u32 Inv-loop μ-loop
+mul-contains-u32 c = search needs
 
-element-copy-out-template : tie.Need-element-copy-out-template Inv-loop μ-loop
-element-copy-out-template c = search needs
+element-copy-out-contains-u32 : tie.Need-element-copy-out-contains-u32 Inv-loop μ-loop
+element-copy-out-contains-u32 c = search needs
 
 contains-u32-requires : tie.Need-contains-u32-requires Inv-loop μ-loop
 contains-u32-requires c κs = search needs
@@ -52,9 +52,9 @@ creators-spec =
     Inv-loop
     μ-loop
     loop-holds
-    cast-template
-    mul-template
-    element-copy-out-template
+    cast-contains-u32
+    mul-contains-u32
+    element-copy-out-contains-u32
     contains-u32-requires
     include-requires
     add-x

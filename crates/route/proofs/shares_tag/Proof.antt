@@ -1,21 +1,8 @@
--- `route::shares_tag` gathers the parts of `sharesTag`, each from one call, and so is exact (Answers.antt).
-use mathlib.Core.Path.{refl}
+-- `route::shares_tag` gathers the parts of `sharesOver`, each from one call.
 use borrow.Author.Needs.{needs}
-use Rattle.route.proofs.Answers.{shares-is}
+use Rattle.route.proofs.Answers.{shares-gathered}
 use Rattle.route.proofs.shares_tag.Statement.{statement}
 use Rattle.route.proofs.shares_tag.Tie as tie
-
-lay-firsts-requires : tie.Need-lay-firsts-requires
-lay-firsts-requires c κs = search needs
-
-lay-seconds-requires : tie.Need-lay-seconds-requires
-lay-seconds-requires c κs = search needs
-
-lay-forks-requires : tie.Need-lay-forks-requires
-lay-forks-requires c κs = search needs
-
-creators-requires : tie.Need-creators-requires
-creators-requires c κs = search needs
 
 only-requires : tie.Need-only-requires
 only-requires c κs = search needs
@@ -42,24 +29,12 @@ contains-u64-requires-2 : tie.Need-contains-u64-requires-2
 contains-u64-requires-2 c κs = search needs
 
 returns : tie.Need-returns
-returns c =
-    let fork = c .before .before .before .before .before .before in
-    let found = fork .before .before .before in
-    let root = found .before .before .before .before .before .before in
-    let laid = root .before .before .before .before .before in
-    shares-is _ _ _ _ _ _ _ (laid .before .before .lay-firsts .ensures) (laid .before .lay-seconds .ensures) _ (laid .lay-forks .ensures)
-    _ _ _ _ _ _ _ _ _ (root .before .before .before .before .creators .ensures) (root .before .before .before .only .ensures)
-    (root .search-from .ensures) (found .before .before .before .search-from2 .ensures) (root .search-from .ok) (found .find-targets .ensures)
-    (fork .some-fork-crosses .ensures) (c .before .before .before .before .contains-u64 .ensures) (c .before .some-successor-leads .ensures) (c .contains-u642 .ensures) _ refl
+returns c = search shares-gathered
 
 pub shares-tag-spec : {M : Type 1} → statement M
 shares-tag-spec =
     tie.close
     (tie.spec
-    lay-firsts-requires
-    lay-seconds-requires
-    lay-forks-requires
-    creators-requires
     only-requires
     search-from-requires
     search-from-requires-2

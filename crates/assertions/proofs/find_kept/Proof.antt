@@ -1,17 +1,16 @@
--- So far each template keeps it.
+-- So far what is kept is in no neg of a template below x outside declass.
 use Prim.Native.Nat.{_-_}
-use borrow.Author.Tests.{not-true, not-false}
-use Rattle.assertions.proofs.Serving.{KeptSoFar, kept-start, kept-room, kept-place, kept-more, kept-not, kept-all}
 use native.Mathlib.Omega.{arith}
+use Rattle.assertions.proofs.Wearing.{KeptSoFar, kept-start, kept-room, kept-place, kept-more, kept-end}
 use borrow.Author.Needs.{needs}
-use Rattle.assertions.proofs.is_kept.Statement.{statement}
-use Rattle.assertions.proofs.is_kept.Tie as tie
+use Rattle.assertions.proofs.find_kept.Statement.{statement}
+use Rattle.assertions.proofs.find_kept.Tie as tie
 
 abbrev Inv-loop : tie.InvT-loop
-Inv-loop declass t plan n x₀ x = KeptSoFar plan declass t n x
+Inv-loop worn declass plan n kept₀ x₀ kept x = KeptSoFar plan worn declass n kept x
 
 abbrev μ-loop : tie.MeasureT-loop
-μ-loop declass t plan n x₀ x = n - x
+μ-loop worn declass plan n kept₀ x₀ kept x = n - x
 
 capped-requires : tie.Need-capped-requires Inv-loop μ-loop
 capped-requires c κs = search needs
@@ -28,11 +27,8 @@ mul-template c = search needs
 element-copy-out-template : tie.Need-element-copy-out-template Inv-loop μ-loop
 element-copy-out-template c = search kept-place
 
-keeps-requires : tie.Need-keeps-requires Inv-loop μ-loop
-keeps-requires c κs = search needs
-
-returns : tie.Need-returns Inv-loop μ-loop
-returns c = search (kept-not, not-true)
+keep-requires : tie.Need-keep-requires Inv-loop μ-loop
+keep-requires c κs = search needs
 
 add-x : tie.Need-add-x Inv-loop μ-loop
 add-x c = search kept-room
@@ -41,13 +37,13 @@ loop-less : tie.Need-loop-less Inv-loop μ-loop
 loop-less c = omega arith
 
 loop-again : tie.Need-loop-again Inv-loop μ-loop
-loop-again c = search (kept-more, not-false)
+loop-again c = search kept-more
 
-returns-2 : tie.Need-returns-2 Inv-loop μ-loop
-returns-2 c = search kept-all
+returns : tie.Need-returns Inv-loop μ-loop
+returns c = search kept-end
 
-pub is-kept-spec : {M : Type 1} → statement M
-is-kept-spec =
+pub find-kept-spec : {M : Type 1} → statement M
+find-kept-spec =
     tie.close
     (tie.spec
     Inv-loop
@@ -57,9 +53,8 @@ is-kept-spec =
     cast-template
     mul-template
     element-copy-out-template
-    keeps-requires
-    returns
+    keep-requires
     add-x
     loop-less
     loop-again
-    returns-2)
+    returns)
