@@ -1,5 +1,5 @@
-// The identifiers that break a rule on an edge, as a mask for each of rules 12 to 16: the judge asks them of the plan's
-// edges, a step those that stepRules names of its process. lab is that of template x, or the process's label in its place.
+// The identifiers that break a rule on the edge from template x to template y: one mask for each row of edgeRules, all with one
+// signature. lab is lab x where the judge asks, and the process's label where a step does.
 use plan::Template;
 ghost use mathlib.Core.Path.{_≡_};
 ghost use Prim.Native.Nat.{_<_};

@@ -18,8 +18,9 @@ use Rattle.plan.specs.declared.Assertion.{Assertion}
 use Rattle.plan.specs.declared.Policy.{Policy}
 use Rattle.plan.specs.Plan.{at, successors, Among, Successor}
 use Rattle.plan.specs.Range.{InRange}
-use Rattle.rules.specs.Rules.{Kept, Each, EveryRule, Serves}
-use Rattle.rules.specs.Judge.{EdgeRule, edgeRules, stepRules}
+use Rattle.rules.specs.Rules.{Kept, Each, RowHolds, EveryRule, Serves}
+use Rattle.rules.specs.Judge.{EdgeRule, stepRules}
+use Rattle.rules.proofs.Edges.{step-rows}
 use Rattle.machine.specs.Machine.{mayBecome}
 use Rattle.machine.proofs.Templates.{among-all, all-among}
 
@@ -113,10 +114,7 @@ module _ (plan : Plan) (range : InRange plan) where
 
   -- Rules 12, 13 and 16 hold of every edge.
   pub edges-pass : (policy : Policy) → EveryRule plan policy → (X Y : ℕ) → Successor plan X Y → Passes plan (at plan X .lab) X Y
-  unfolding edgeRules stepRules
-  edges-pass policy rules X Y s =
-      let r = rules .edges X Y (edge-below X Y s) s in
-      (r .0, (r .1 .0, (r .1 .1 .1 .1 .0, tt)))
+  edges-pass policy rules X Y s = step-rows (RowHolds plan X Y) (rules .edges X Y (edge-below X Y s) s)
 
   -- The identifier that serves a secrecy stands in no neg of a template outside Declass.
   pub lasts : (a : Assertion) (t : ℕ) → Serves plan a t → (X : ℕ) → has X (a .declass) ≡ false → has t (at plan X .neg) ≡ false

@@ -14,7 +14,8 @@ use Rattle.rules.specs.Rules.{EveryRule}
 use Rattle.rules.specs.Judge.{Text, PlanText, PolicyText, Fault, Breach, Verdict, Accepted, Broken, Unread, check11, checkEdges, checkAssertions, judgeRead, afterReading, judge}
 use Rattle.rules.specs.Broken.{FirstBroken, broken11, on-edge, on-assertion}
 use Rattle.rules.proofs.Walk.{decided-not, unread-accepted, unread-broken, or-accepted, or-both, or-broken, or-decided, or-first, or-later}
-use Rattle.rules.proofs.Edges.{rule11-of, rule11-to, broken11-of, of-broken11, decided11, edges-rules, rules-edges, edges-broken, broken-edges, edges-decided}
+use Rattle.rules.proofs.Created.{rule11-of, rule11-to, broken11-of, of-broken11, decided11}
+use Rattle.rules.proofs.Edges.{edges-rules, rules-edges, edges-broken, broken-edges, edges-decided}
 use Rattle.rules.proofs.Assertions.{assertions-asked, asked-assertions, assertions-broken, broken-assertions, assertions-decided}
 
 -- ---- over a plan and a policy that were read

@@ -1,4 +1,5 @@
 pub mod Walk
+pub mod Created
 pub mod Edges
 pub mod Assertions
 pub mod Exact

@@ -73,6 +73,7 @@ offends15 lab X Y i = has i (Y .neg) && not (has i (X .neg) || has i (Y .creates
 abbrev pub offends16 : ℕ → Template → Template → ℕ → Bool
 offends16 lab X Y i = has i (Y .creates) && has i lab
 
+-- A row of the table: the rule's number and its test.
 pub record EdgeRule : Type 0 where
   pub number : ℕ
   pub offends : ℕ → Template → Template → ℕ → Bool
@@ -80,7 +81,7 @@ pub record EdgeRule : Type 0 where
 abbrev rule : ℕ → (ℕ → Template → Template → ℕ → Bool) → EdgeRule
 rule number offends = record { number = number; offends = offends }
 
--- "Each tested 12 to 16"; and "rules 12, 13, 16", which a step asks.
+-- "Each tested 12 to 16"; of these a step asks "rules 12, 13, 16".
 unfoldable pub edgeRules : List EdgeRule
 edgeRules = rule 12 offends12 ∷ rule 13 offends13 ∷ rule 14 offends14 ∷ rule 15 offends15 ∷ rule 16 offends16 ∷ []
 
