@@ -1,9 +1,12 @@
 -- Calls on a box of another plan than the base one, each worked out by hand from document 01, "The monitor's machine": moves
--- that are accepted, tags that differ, the children of `either`, `both` and `end`. They pin what cases a to m do not reach.
+-- that are accepted, tags that differ, the children of `either`, `both` and `end`; and rules 12 to 16 on one edge, from "The
+-- judge". They pin what cases a to m do not reach.
 use Prim.Native.Nat.{ℕ}
 use mathlib.Core.{Bool.{Bool, true, false}, List.{List, [], _∷_}}
 use Rattle.plan.specs.declared.{Form.{Form, the-variants.{End, Go, Either, Both}}, Template.{Template}, Plan.{Plan}}
-use Rattle.machine.specs.Machine.{Process, Machine, Outcome, boxLimits, run}
+use Rattle.rules.specs.declared.Verdict.{Verdict, the-variants.{Accepted}}
+use Rattle.rules.specs.Judge.{broken, checkEdges}
+use Rattle.machine.specs.Machine.{Process, Machine, Outcome, boxLimits, mayBecome, run}
 use Rattle.machine.specs.State.{callOf, codeOf}
 
 abbrev template : Form → ℕ → ℕ → ℕ → ℕ → Bool → Template
@@ -72,3 +75,42 @@ figures =
     ∷ row 0 3 0 0 11 (p4 ∷ p6 ∷ p8 2 ∷ p9 ∷ process 10 1 1 0 10 ∷ []) ∷ row 0 3 1 0 11 (p4 ∷ p6 ∷ p8 2 ∷ p9 ∷ process 10 2 0 0 5 ∷ [])
     ∷ row 0 6 0 0 12 (p3 1 ∷ p4 ∷ p8 2 ∷ p9 ∷ process 10 3 3 2 10 ∷ process 11 4 1 2 7 ∷ []) ∷ row 0 9 0 0 10 (p3 1 ∷ p4 ∷ p6 ∷ p8 2 ∷ [])
     ∷ row 0 3 2 22 10 five ∷ row 0 8 0 25 10 five ∷ []
+
+-- One edge, from template 0 to template 1, over two identifiers; what the judge finds on it, and whether a process at
+-- template 0 of some label may become one at template 1.
+pub record EdgeFigure : Type 0 where
+  pub x : Template
+  pub y : Template
+  pub verdict : Verdict
+  pub label : ℕ
+  pub may : Bool
+
+abbrev edge : Template → Template → Verdict → ℕ → Bool → EdgeFigure
+edge x y verdict label may = record { x = x; y = y; verdict = verdict; label = label; may = may }
+
+abbrev from : ℕ → ℕ → ℕ → ℕ → Template
+from lab pos neg creates = template (Go 1) lab pos neg creates false
+
+abbrev to : ℕ → ℕ → ℕ → ℕ → Template
+to lab pos neg creates = template End lab pos neg creates false
+
+-- What the judge and the machine give for the templates and the label of a row.
+unfoldable pub computedEdge : EdgeFigure → EdgeFigure
+computedEdge f =
+    let plan : Plan = record { count = 2; identifiers = 2; templates = f .x ∷ f .y ∷ [] } in
+    edge (f .x) (f .y) (checkEdges plan) (f .label) (mayBecome plan (f .label) 0 1)
+
+unfoldable pub edgeFigures : List EdgeFigure
+edgeFigures =
+    -- each rule alone: 13 by the child's neg, 14 and 15 by the child's creates; a step asks 12, 13 and 16
+    edge (from 0 0 0 0) (to 2 0 0 0) (broken 12 0 1 1) 0 false
+    ∷ edge (from 2 0 2 0) (to 0 0 0 0) (broken 13 0 1 1) 2 false
+    ∷ edge (from 0 0 0 2) (to 0 2 0 0) (broken 14 0 1 1) 0 true
+    ∷ edge (from 0 2 0 2) (to 0 0 2 0) (broken 15 0 1 1) 0 true
+    ∷ edge (from 2 0 0 0) (to 2 0 0 2) (broken 16 0 1 1) 2 false
+    -- none: 12 by pos Y, 13 by neg Y, 14 by creates Y, 15 by neg X; with another label than lab X 16 alone
+    ∷ edge (from 1 0 1 0) (to 2 2 1 2) Accepted 1 true ∷ edge (from 1 0 1 0) (to 2 2 1 2) Accepted 2 false
+    -- the first of two rules, though the other has the lower identifier; the lowest of two identifiers
+    ∷ edge (from 1 0 0 0) (to 2 0 0 0) (broken 12 0 1 1) 3 false ∷ edge (from 2 0 0 0) (to 0 1 0 0) (broken 13 0 1 1) 0 true
+    ∷ edge (from 0 0 0 0) (to 0 2 1 0) (broken 14 0 1 1) 0 true ∷ edge (from 1 0 0 0) (to 1 0 2 1) (broken 15 0 1 1) 2 false
+    ∷ edge (from 0 0 0 0) (to 3 0 0 0) (broken 12 0 1 0) 3 true ∷ []

@@ -1,5 +1,5 @@
 -- Rule 11 by masks: the identifiers created so far, and those created again; then the two lowest creators of one.
-use Prim.Native.Nat.{ℕ, _+_, _^_, _≤_, _<_}
+use Prim.Native.Nat.{ℕ, _+_, _≤_, _<_}
 use mathlib.Core.Path.{_≡_, refl, sym, ap, ap₂, subst, _∙_}
 use mathlib.Core.Bool.{Bool, true, false, cond, _&&_, _||_, and-false}
 use mathlib.Core.Logic.{⊎-elim}
@@ -15,17 +15,18 @@ use borrow.Author.Tests.{lt-ltb, le-ltb, ltb-true, le-leb, lt-leb}
 use Rattle.lists.specs.Numbers.{any, lowest}
 use Rattle.lists.proofs.Tests.{same-test, lt-or-le, passes-fails, and-left}
 use Rattle.lists.proofs.Every.{any-none, any-more, any-acc, any-ext, any-at, any-of, any-from, any-to, any-capped}
-use Rattle.lists.proofs.Lowest.{lowest-le, lowest-holds, lowest-below, lowest-ext, lowest-any, lowest-is, lowest-none, lowest-shorter, lowest-hit}
+use Rattle.lists.proofs.Lowest.{lowest-le, lowest-holds, lowest-below, lowest-ext, lowest-any, lowest-none, lowest-shorter, lowest-hit}
 use Rattle.mask.specs.Mask.{has}
+use Rattle.mask.specs.Sets.{Marks}
 use Rattle.mask.proofs.Items.{has-or, has-and, has-none}
-use Rattle.mask.proofs.Width.{has-past}
 use Rattle.plan.specs.declared.Template.{Template}
 use Rattle.plan.specs.declared.Plan.{Plan}
 use Rattle.plan.specs.Plan.{blank, at, creates}
 use Rattle.plan.proofs.Places.{template-past}
 use Rattle.rules.specs.declared.Verdict.the-variants.{Accepted}
 use Rattle.rules.specs.Judge.{broken, creator, nextCreator, check11}
-use Rattle.edges.specs.Wide.{Marks, placed, creatorFrom}
+use Rattle.offenders.proofs.Masks.{lowest-marked}
+use Rattle.edges.specs.Wide.{placed, creatorFrom}
 
 -- ---- the masks
 
@@ -157,30 +158,21 @@ module _ (plan : Plan) where
   twice-test : ℕ → Bool
   twice-test t = ltb (nextCreator plan t) (plan .count)
 
-  -- No identifier is created twice.
-  made-once : ((t : ℕ) → t < plan .identifiers → twice-test t ≡ false) → Accepted ≡ check11 plan
-  unfolding check11 twice-test
-  made-once f =
-      let u = lowest (plan .identifiers) twice-test in
-      let end : plan .identifiers ≤ u = omega (arith, lowest-none (plan .identifiers) twice-test f) in
-      sym (ap (λ (c : Bool). cond c (broken 11 (creator plan u) (nextCreator plan u) u) Accepted) (le-ltb u (plan .identifiers) end))
-
-  module _ (m t : ℕ) (e : Marks m (λ i. ltb (nextCreator plan i) (plan .count))) (q : t ≡ lowest 32 (λ i. has i m)) where
-    fails-below : (i : ℕ) → i < t → twice-test i ≡ false
+  module _ (m t : ℕ) (e : Marks m (λ i. ltb (nextCreator plan i) (plan .count))) (q : t ≡ lowest (plan .identifiers) (λ i. has i m)) where
+    found : lowest (plan .identifiers) twice-test ≡ t
     unfolding twice-test
-    fails-below i h = sym (e i) ∙ lowest-below 32 (λ i. has i m) i (subst (λ (k : ℕ). i < k) q h)
+    found = sym (q ∙ lowest-marked (plan .identifiers) m (λ i. ltb (nextCreator plan i) (plan .count)) e)
 
-    pub twice-none : m < 2 ^ 32 → 32 ≤ t → Accepted ≡ check11 plan
-    unfolding twice-test
-    twice-none w h = made-once (λ i l. ⊎-elim (λ k. fails-below i (le-trans k h)) (λ k. sym (e i) ∙ has-past 32 m i w k) (lt-or-le i 32))
+    -- No identifier is created twice.
+    pub made-once : plan .identifiers ≤ t → Accepted ≡ check11 plan
+    unfolding check11 twice-test
+    made-once h =
+        sym (ap (λ (u : ℕ). cond (ltb u (plan .identifiers)) (broken 11 (creator plan u) (nextCreator plan u) u) Accepted) found
+        ∙ ap (λ (c : Bool). cond c (broken 11 (creator plan t) (nextCreator plan t) t) Accepted) (le-ltb t (plan .identifiers) h))
 
-    pub twice-past : plan .identifiers ≤ t → Accepted ≡ check11 plan
-    twice-past h = made-once (λ i l. fails-below i (le-trans l h))
-
-    module _ (B : Type 0) (f : Template → B) (full : length (map f (plan .templates)) ≡ 64) (l : t < 32) (h : t < plan .identifiers) where
+    module _ (B : Type 0) (f : Template → B) (full : length (map f (plan .templates)) ≡ 64) (h : t < plan .identifiers) where
       passes : twice-test t ≡ true
-      unfolding twice-test
-      passes = sym (e t) ∙ ap (λ (i : ℕ). has i m) q ∙ lowest-holds 32 (λ i. has i m) (subst (λ (k : ℕ). k < 32) q l)
+      passes = subst (λ (u : ℕ). twice-test u ≡ true) found (lowest-holds (plan .identifiers) twice-test (subst (λ (u : ℕ). u < plan .identifiers) (sym found) h))
 
       abbrev later : ℕ → Bool
       later X = ltb (creator plan t) X && creates plan t X
@@ -215,7 +207,6 @@ module _ (plan : Plan) where
       made-twice X Y a b =
           let X≡ : X ≡ creator plan t = a ∙ first-is in
           let Y≡ : Y ≡ nextCreator plan t = b ∙ ap (λ (z : ℕ). creatorFrom plan (z + 1) t) X≡ ∙ next-is in
-          let found : lowest (plan .identifiers) twice-test ≡ t = lowest-is (plan .identifiers) twice-test t h passes fails-below in
           ap₂ (λ (x y : ℕ). broken 11 x y t) X≡ Y≡
           ∙ sym (ap (λ (c : Bool). cond c (broken 11 (creator plan t) (nextCreator plan t) t) Accepted) (lt-ltb t (plan .identifiers) h))
           ∙ sym (ap (λ (u : ℕ). cond (ltb u (plan .identifiers)) (broken 11 (creator plan u) (nextCreator plan u) u) Accepted) found)

@@ -1,6 +1,6 @@
 -- The edges from one template, by the code's answer for its successors; and the loop over the templates.
 use Prim.Native.Nat.{ℕ, zero, suc, _+_, _≤_, _<_}
-use mathlib.Core.Path.{_≡_, refl, sym, ap, subst, _∙_}
+use mathlib.Core.Path.{_≡_, refl, sym, ap, ap₂, subst, _∙_}
 use mathlib.Core.Bool.{Bool, true, false}
 use mathlib.Core.List.{List, [], _∷_, map}
 use native.Mathlib.Omega.{arith}
@@ -14,42 +14,47 @@ use Rattle.plan.specs.Plan.{at, successors}
 use Rattle.plan.specs.Listed.{listFor, listed}
 use Rattle.plan.proofs.Places.{template-past}
 use Rattle.rules.specs.declared.Verdict.{Verdict}
-use Rattle.rules.specs.declared.Verdict.the-variants.{Accepted, Broken, Unread}
+use Rattle.rules.specs.declared.Verdict.the-variants.{Accepted}
 use Rattle.rules.specs.Judge.{orElse, firstBelow, firstIn, checkEdge, checkEdges}
 use Rattle.rules.specs.Broken.{accepted}
 use Rattle.rules.proofs.Walk.{accepted-is, below-none, below-more, below-leaves, below-past}
-use Rattle.edges.specs.Wide.{placed}
+use Rattle.edges.specs.Wide.{placed, edgeOf}
+use Rattle.edges.proofs.Offenders.{or-last, edge-checked}
 
-or-last : (v : Verdict) → orElse v Accepted ≡ v
-unfolding orElse
-or-last Accepted = refl
-or-last (Broken b) = refl
-or-last (Unread f) = refl
+module _ (plan : Plan) (X : ℕ) (a : Template) (k : a ≡ at plan X) (s : Successors) (e : listed s ≡ successors (a .form)) where
+  abbrev from : Verdict
+  from = firstIn (successors (at plan X .form)) (checkEdge plan X)
 
-module _ (plan : Plan) (X : ℕ) (f : ℕ → Verdict) (a : Template) (k : a ≡ at plan X) (s : Successors) (e : listed s ≡ successors (a .form)) where
-  list : listed s ≡ successors (at plan X .form)
-  list = e ∙ ap (λ (x : Template). successors (x .form)) k
+  -- The walk over the successors that the code has.
+  over : (n : ℕ) → s .count ≡ n → firstIn (listFor n (s .first) (s .second)) (checkEdge plan X) ≡ from
+  over n h =
+      ap (λ (r : List ℕ). firstIn r (checkEdge plan X))
+      (sym (ap (λ (n : ℕ). listFor n (s .first) (s .second)) h) ∙ e ∙ ap (λ (x : Template). successors (x .form)) k)
 
-  pub none-from : s .count ≡ 0 → Accepted ≡ firstIn (successors (at plan X .form)) f
+  pub none-from : s .count ≡ 0 → Accepted ≡ firstIn (successors (at plan X .form)) (checkEdge plan X)
   unfolding firstIn
-  none-from h = ap (λ (r : List ℕ). firstIn r f) (sym (ap (λ (n : ℕ). listFor n (s .first) (s .second)) h) ∙ list)
+  none-from h = over 0 h
 
-  pub one-from : s .count ≡ 1 → (v : Verdict) → v ≡ f (s .first) → v ≡ firstIn (successors (at plan X .form)) f
-  unfolding firstIn
-  one-from h v q =
-      sym (or-last v) ∙ ap (λ (x : Verdict). orElse x Accepted) q
-      ∙ ap (λ (r : List ℕ). firstIn r f) (sym (ap (λ (n : ℕ). listFor n (s .first) (s .second)) h) ∙ list)
+  module _ (b : Template) (there : b ≡ at plan (s .first)) (v : Verdict) (q : v ≡ edgeOf (plan .identifiers) a b X (s .first)) where
+    first : v ≡ checkEdge plan X (s .first)
+    first = edge-checked plan X (s .first) a b v k there q
 
-  two : (n : ℕ) → (n ≡ 0 → ⊥) → (n ≡ 1 → ⊥) → listFor n (s .first) (s .second) ≡ s .first ∷ s .second ∷ []
-  two zero h k = absurd (h refl)
-  two (suc zero) h k = absurd (k refl)
-  two (suc (suc n)) h k = refl
+    pub one-from : s .count ≡ 1 → v ≡ firstIn (successors (at plan X .form)) (checkEdge plan X)
+    unfolding firstIn
+    one-from h = first ∙ sym (or-last (checkEdge plan X (s .first))) ∙ over 1 h
 
-  pub two-from : (s .count ≡ 0 → ⊥) → (s .count ≡ 1 → ⊥) → (v w r : Verdict) → r ≡ orElse v w → v ≡ f (s .first) → w ≡ f (s .second) → r ≡ firstIn (successors (at plan X .form)) f
-  unfolding firstIn
-  two-from h k v w r q c d =
-      q ∙ (λ i. orElse (c i) ((d ∙ sym (or-last (f (s .second)))) i))
-      ∙ ap (λ (r : List ℕ). firstIn r f) (sym (two (s .count) h k) ∙ list)
+    two : (n : ℕ) → (n ≡ 0 → ⊥) → (n ≡ 1 → ⊥) → listFor n (s .first) (s .second) ≡ s .first ∷ s .second ∷ []
+    two zero h l = absurd (h refl)
+    two (suc zero) h l = absurd (l refl)
+    two (suc (suc n)) h l = refl
+
+    pub two-from : (s .count ≡ 0 → ⊥) → (s .count ≡ 1 → ⊥) → (c : Template) → c ≡ at plan (s .second) → (w r : Verdict) → r ≡ orElse v w
+        → w ≡ edgeOf (plan .identifiers) a c X (s .second) → r ≡ firstIn (successors (at plan X .form)) (checkEdge plan X)
+    unfolding firstIn
+    two-from h l c here w r o d =
+        o ∙ ap₂ orElse first (edge-checked plan X (s .second) a c w k here d ∙ sym (or-last (checkEdge plan X (s .second))))
+        ∙ ap (λ (r : List ℕ). firstIn r (checkEdge plan X)) (sym (two (s .count) h l))
+        ∙ over (s .count) refl
 
 -- ---- all templates
 

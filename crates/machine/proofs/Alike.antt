@@ -95,21 +95,21 @@ module _ (p : Plan) (ts : List Template) where
 
     -- ---- the children of a step
 
-    may-refilled : (label Y : ℕ) → Y < p .count → mayBecome q label Y ≡ mayBecome p label Y
+    may-refilled : (label X Y : ℕ) → X < p .count → Y < p .count → mayBecome q label X Y ≡ mayBecome p label X Y
     unfolding mayBecome
-    may-refilled label Y h = rw (mayBecome, below Y h)
+    may-refilled label X Y l h = rw (mayBecome, below X l, below Y h)
 
     child-refilled : (x : Process) (serial Y : ℕ) → Y < p .count → child q x serial Y ≡ child p x serial Y
     unfolding child creates
     child-refilled x serial Y h = rw (child, creates, below Y h)
 
-    all-refilled : (label : ℕ) (templates : List ℕ) → all (λ Y. ltb Y (p .count)) templates ≡ true
-        → all (mayBecome q label) templates ≡ all (mayBecome p label) templates
+    all-refilled : (label X : ℕ) → X < p .count → (templates : List ℕ) → all (λ Y. ltb Y (p .count)) templates ≡ true
+        → all (mayBecome q label X) templates ≡ all (mayBecome p label X) templates
     unfolding all
-    all-refilled label [] e = refl
-    all-refilled label (Y ∷ rest) e =
-        ap₂ _&&_ (may-refilled label Y (ltb-true Y (p .count) (and-left (ltb Y (p .count)) _ e)))
-        (all-refilled label rest (and-right (ltb Y (p .count)) _ e))
+    all-refilled label X l [] e = refl
+    all-refilled label X l (Y ∷ rest) e =
+        ap₂ _&&_ (may-refilled label X Y l (ltb-true Y (p .count) (and-left (ltb Y (p .count)) _ e)))
+        (all-refilled label X l rest (and-right (ltb Y (p .count)) _ e))
 
     spawn-refilled : (x : Process) (next : ℕ) (templates : List ℕ) → all (λ Y. ltb Y (p .count)) templates ≡ true
         → spawn q x next templates ≡ spawn p x next templates
@@ -129,7 +129,7 @@ module _ (p : Plan) (ts : List Template) where
           → Same m (λ m. stepBy limits m s branch (some x))
       unfolding stepBy stepAnswer stepped
       same-step e s branch x h =
-          rw (below (x .template) h, all-refilled (x .label) templates low, spawn-refilled x (m .next) templates low)
+          rw (below (x .template) h, all-refilled (x .label) (x .template) h templates low, spawn-refilled x (m .next) templates low)
           (settled-on q (onPlan p m) (stepped (onPlan p m) s x templates) _)
         where
           templates : List ℕ

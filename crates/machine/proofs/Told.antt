@@ -33,7 +33,7 @@ pub record Stepping (limits : Limits) (m : Machine) (p : Process) (branch : ℕ)
   pub branches : branchFits (at (m .plan) (p .template) .form) branch ≡ true
   pub room : (eqb (length (childrenAt (m .plan) (p .template) branch)) 2 && not (limits .processes (length (m .live) + 1))) ≡ false
   pub serials : limits .serials (m .next + length (childrenAt (m .plan) (p .template) branch)) ≡ true
-  pub labels : all (mayBecome (m .plan) (p .label)) (childrenAt (m .plan) (p .template) branch) ≡ true
+  pub labels : all (mayBecome (m .plan) (p .label) (p .template)) (childrenAt (m .plan) (p .template) branch) ≡ true
 
 module _ (limits : Limits) (m : Machine) (p : Process) (branch : ℕ) where
   abbrev answer : Answer

@@ -8,7 +8,7 @@ use Rattle.lists.specs.Numbers.{every, all, tabulate}
 use Rattle.mask.specs.Mask.{has, plus, without}
 use Rattle.plan.specs.declared.{Form.{Form, the-variants.{End, Go, Either, Both}}, Template.{Template}, Plan.{Plan}}
 use Rattle.plan.specs.Plan.{at, successors, creates}
-use Rattle.rules.specs.Judge.{offends12, offends13, offends16}
+use Rattle.rules.specs.Judge.{EdgeRule, stepRules}
 use Rattle.machine.specs.declared.Answer.{Answer, the-variants.{Done, Delivered, Held, Refused}}
 
 -- "A process has a serial, a template, a label (a mask) and, for each identifier, a tag."
@@ -113,10 +113,9 @@ children (Either Y Z) branch = cond (eqb branch 0) Y Z ∷ []
 children (Both Y Z) branch = Y ∷ Z ∷ []
 
 -- "For some child at Y, the label is not as rules 12, 13, 16 ask, the process's label standing for lab X."
-unfoldable pub mayBecome : Plan → ℕ → ℕ → Bool
-mayBecome plan label Y =
-    every (plan .identifiers) (λ i.
-    not (offends12 label (at plan Y) i) && (not (offends13 label (at plan Y) i) && not (offends16 label (at plan Y) i)))
+unfoldable pub mayBecome : Plan → ℕ → ℕ → ℕ → Bool
+mayBecome plan label X Y =
+    every (plan .identifiers) (λ i. all (λ (r : EdgeRule). not (r .offends label (at plan X) (at plan Y) i)) stepRules)
 
 -- "A child has lab Y, its parent's tags, and its own serial as tag of each identifier Y creates."
 unfoldable pub child : Plan → Process → ℕ → ℕ → Process
@@ -134,7 +133,7 @@ stepAnswer limits m p branch templates =
     refuseIf (not (branchFits (at (m .plan) (p .template) .form) branch)) 22
     (refuseIf (eqb (length templates) 2 && not (limits .processes (length (m .live) + 1))) 23
     (refuseIf (not (limits .serials (m .next + length templates))) 24
-    (refuseIf (not (all (mayBecome (m .plan) (p .label)) templates)) 25
+    (refuseIf (not (all (mayBecome (m .plan) (p .label) (p .template)) templates)) 25
     Done)))
 
 -- "Else the process goes"; its children come after all others.

@@ -1,6 +1,7 @@
--- Masks as sets: what contracts and laws of crate mask name besides Mask.antt.
+-- Masks as sets: what contracts and laws name besides Mask.antt.
 -- Not to be believed: nothing that document 01 says is said with these.
 use Prim.Native.Nat.{ℕ, zero, suc, _+_, _*_, _/_, _%_, _^_}
+use mathlib.Core.Path.{_≡_}
 use mathlib.Core.Bool.{Bool, not, cond, _||_}
 use lib.Dec.{ltb}
 use Rattle.lists.specs.Numbers.{every}
@@ -22,3 +23,7 @@ raised n m = m * 2 ^ n
 unfoldable pub size : ℕ → ℕ → ℕ
 size zero m = 0
 size (suc width) m = m % 2 + size width (m / 2)
+
+-- The items of the mask are those that pass the test.
+abbrev pub Marks : ℕ → (ℕ → Bool) → Type 0
+Marks m test = (i : ℕ) → has i m ≡ test i

@@ -20,7 +20,7 @@ use Rattle.machine.proofs.Templates.{childrenAt}
 use Rattle.machine.proofs.Told.{Moving, label-set, label-kept}
 use Rattle.machine.proofs.Live.{no-some, Population, population, find-remove, find-relabel, arrivals, find-spawn}
 use Rattle.promise.specs.History.{Member, History, lineage, touched, retire, births, learnt, hear, mark, changes}
-use Rattle.promise.proofs.Accepted.{all-passes}
+use Rattle.promise.proofs.Accepted.{AllPass, all-passes}
 use Rattle.promise.proofs.Lineage.{On}
 use Rattle.promise.proofs.Family.{Fits, Family, family-touch, unborn}
 use Rattle.promise.proofs.Guard.{Guard}
@@ -94,14 +94,16 @@ module _ (plan : Plan) (next : ℕ) (live : List Process) (H : History) (g : Fam
     -- and the knowledge.
     pub guarded-step : (guard : Guard plan) → Guarded plan guard (population live) H → (branch : ℕ)
         → let templates = childrenAt plan (p .template) branch in
-        all (mayBecome plan (p .label)) templates ≡ true
+        all (mayBecome plan (p .label) (p .template)) templates ≡ true
         → Guarded plan guard (population (remove s live ++ spawn plan p next templates))
         (births (guard .declass) s next (childrenAt plan (H s .template) branch) (retire s H))
     guarded-step guard f branch test = rw (stepped-list branch)
         (births-guarded plan next (put (population live) s none) (retire s H) family-retire s p parent childless guard
         (guarded-touch plan guard (population live) H f s false (H s .moved) (H s .knows) none (f .known s) (λ p q. absurd (no-some p q)))
         (rw ended (put-all (Carried plan guard (worn p) (H s .knows)) H s retired (f .safe s p e s) (λ y h. f .safe s p e y)))
-        branch (at plan (H s .template) .form) form (rw (fit .template) at (all-passes plan (p .label) (childrenAt plan (p .template) branch) test)))
+        branch (at plan (H s .template) .form) form
+        (subst (λ (X : ℕ). AllPass plan (p .label) (p .template) (childrenAt plan X branch)) (fit .template)
+        (all-passes plan (p .label) (p .template) (childrenAt plan (p .template) branch) test)))
 
     -- ---- an accepted raise or lower of s
 

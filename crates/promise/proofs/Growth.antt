@@ -128,11 +128,11 @@ module _ (plan : Plan) (next : ℕ) (P : Population) (H : History) (g : Family p
 module _ (plan : Plan) (next : ℕ) (P : Population) (H : History) (g : Family plan next P H)
     (r : ℕ) (p : Process) (parent : Parent plan H r p) (childless : Childless H r)
     (guard : Guard plan) (f : Guarded plan guard P H) (carries : Carries plan guard H (H r .knows) (worn p)) where
-  guarded-one : (Y : ℕ) → Passes plan (p .label) Y → Guarded plan guard (arrival plan p next Y P) (birth (guard .declass) r next Y H)
+  guarded-one : (Y : ℕ) → Passes plan (p .label) (p .template) Y → Guarded plan guard (arrival plan p next Y P) (birth (guard .declass) r next Y H)
   guarded-one Y passes =
       guarded-birth plan guard P H f next g r next Y p (parent .born) (parent .template) (omega arith) passes (parent .tags) carries
 
-  guarded-two : (Y Z : ℕ) → Successor plan (H r .template) Y → Passes plan (p .label) Y → Passes plan (p .label) Z
+  guarded-two : (Y Z : ℕ) → Successor plan (H r .template) Y → Passes plan (p .label) (p .template) Y → Passes plan (p .label) (p .template) Z
       → Guarded plan guard (arrival plan p (suc next) Z (arrival plan p next Y P))
       (birth (guard .declass) r (suc next) Z (birth (guard .declass) r next Y H))
   guarded-two Y Z edge-Y passes-Y passes-Z =
@@ -148,7 +148,7 @@ module _ (plan : Plan) (next : ℕ) (P : Population) (H : History) (g : Family p
   -- All children of a step that the labels allow.
   pub births-guarded : (branch : ℕ) (form : Form) → at plan (H r .template) .form ≡ form
       → let templates = children form branch in
-      AllPass plan (p .label) templates → Guarded plan guard (arrivals plan p next templates P) (births (guard .declass) r next templates H)
+      AllPass plan (p .label) (p .template) templates → Guarded plan guard (arrivals plan p next templates P) (births (guard .declass) r next templates H)
   unfolding births arrivals children successors
   births-guarded branch End e a = f
   births-guarded branch (Go Y) e a = guarded-one Y (a Y (inl refl))

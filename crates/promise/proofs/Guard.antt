@@ -38,7 +38,7 @@ pub record Guard (plan : Plan) : Type 1 where
   pub own : (x : ℕ) (p : Process) (m : Member) → Fits plan x p m → m .moved ≡ false → m .template ≡ source → Safe (worn p) (lineage x m)
   -- Outside Declass a child is as safe as its parent, a receiver as the sender, and a process after a move as before.
   pub inherit : (c Y : ℕ) (p : Process) (source : List Node) → has (p .template) declass ≡ false → has Y declass ≡ false
-      → Passes plan (p .label) Y → Safe (worn p) source → Safe (worn (child plan p c Y)) source
+      → Passes plan (p .label) (p .template) Y → Safe (worn p) source → Safe (worn (child plan p c Y)) source
   pub deliver : (v w : Worn) (source : List Node) → Passing plan v w → Safe v source → Safe w source
   pub move : (p : Process) (present : Bool) (i : ℕ) (source : List Node) → has (p .template) declass ≡ false
       → Moving plan p present i → Safe (worn p) source → Safe (worn (relabelled p (labelWith present (p .label) i))) source
@@ -49,14 +49,14 @@ pub record Guard (plan : Plan) : Type 1 where
 -- are equal as makers, and t may be worn at the process's template.
 module _ (plan : Plan) (range : InRange plan) (a : Assertion) (t : ℕ) (below : t < plan .identifiers) (serves : Serves plan a t) where
   -- A child outside Declass keeps the identifier (rule 13) and does not make it afresh (rule 16).
-  pub safe-child : (c Y : ℕ) (p : Process) (source : List Node) → has Y (a .declass) ≡ false → Passes plan (p .label) Y
+  pub safe-child : (c Y : ℕ) (p : Process) (source : List Node) → has Y (a .declass) ≡ false → Passes plan (p .label) (p .template) Y
       → (has t (p .label) ≡ true) × (tag p t ≡ maker (creates plan t) source)
       → (has t (child plan p c Y .label) ≡ true) × (tag (child plan p c Y) t ≡ maker (creates plan t) source)
   unfolding child tag creates
   safe-child c Y p source outside passes safe = (
-    stays plan (p .label) Y passes t below (safe .0) (lasts plan range a t serves Y outside),
+    stays plan (p .label) (p .template) Y passes t below (safe .0) (lasts plan range a t serves Y outside),
     getD-tabulate (plan .identifiers) (λ j. cond (creates plan j Y) c (tag p j)) t 0 below
-        ∙ (ap (λ (b : Bool). cond b c (tag p t)) (unmade plan (p .label) Y passes t below (safe .0)) ∙ safe .1),
+        ∙ (ap (λ (b : Bool). cond b c (tag p t)) (unmade plan (p .label) (p .template) Y passes t below (safe .0)) ∙ safe .1),
   )
 
   -- A process outside Declass cannot lower it.

@@ -129,7 +129,7 @@ module _ (plan : Plan) (guard : Guard plan) where
 
       -- A child c at Y is born of the process r, which was p.
       pub guarded-birth : (r c Y : ℕ) (p : Process)
-          → H r .born ≡ true → p .template ≡ H r .template → next ≤ c → Passes plan (p .label) Y
+          → H r .born ≡ true → p .template ≡ H r .template → next ≤ c → Passes plan (p .label) (p .template) Y
           → Tagged plan p (lineage r (H r)) → Carries H (H r .knows) (worn p)
           → Guarded (put P c (some (child plan p c Y))) (put H c (newborn Y (lineage r (H r)) (inherited (guard .declass) c Y (H r .knows))))
       guarded-birth r c Y p born template fresh passes tags carries =

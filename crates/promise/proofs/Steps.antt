@@ -34,11 +34,11 @@ never-25 false false false false t e = absurd (false≢true t)
 module _ (plan : Plan) (range : InRange plan) (policy : Policy) (rules : EveryRule plan policy)
     (next : ℕ) (live : List Process) (H : History) (g : Family plan next (population live) H) (s : ℕ) (unmoved : H s .moved ≡ false) where
   -- An unmoved process may have a child at each successor,
-  unmoved-passes : (p : Process) → find s live ≡ some p → (Y : ℕ) → Successor plan (p .template) Y → Passes plan (p .label) Y
+  unmoved-passes : (p : Process) → find s live ≡ some p → (Y : ℕ) → Successor plan (p .template) Y → Passes plan (p .label) (p .template) Y
   unmoved-passes p e Y edge =
       let fit = g .fits s p e in
-      passes-alike plan (p .label) (at plan (H s .template) .lab) Y (fit .unmoved unmoved)
-      (edges-pass plan range policy rules (H s .template) Y (rw (fit .template) at edge))
+      passes-alike plan (p .label) (at plan (H s .template) .lab) (p .template) Y (fit .unmoved unmoved)
+      (rw (fit .template) (edges-pass plan range policy rules (H s .template) Y (rw (fit .template) at edge)))
 
   -- so no step of it is refused over labels.
   pub not-25 : (limits : Limits) (branch : ℕ) → answerTo limits (machineWith plan next live) (step s branch) .answer ≢ Refused 25
@@ -49,5 +49,5 @@ module _ (plan : Plan) (range : InRange plan) (policy : Policy) (rules : EveryRu
       pick none e = λ r. let z = refused-number 21 25 r in omega arith
       pick (some p) e =
           let templates : List ℕ = childrenAt plan (p .template) branch in
-          never-25 _ _ _ (all (mayBecome plan (p .label)) templates)
-          (passes-all plan (p .label) templates (children-are (Passes plan (p .label)) (at plan (p .template) .form) branch (unmoved-passes p e)))
+          never-25 _ _ _ (all (mayBecome plan (p .label) (p .template)) templates)
+          (passes-all plan (p .label) (p .template) templates (children-are (Passes plan (p .label) (p .template)) (at plan (p .template) .form) branch (unmoved-passes p e)))

@@ -1,7 +1,7 @@
 -- Rules 11 to 16: each check is accepted exactly when its rules hold, and where it is broken the rule that it names is
 -- the first that fails, at the lowest identifier.
 use Prim.Native.Nat.{ℕ, _≤_, _<_}
-use mathlib.Core.Path.{_≡_, sym, ap, ap₂, subst, _∙_}
+use mathlib.Core.Path.{_≡_, sym, ap, ap₂, _∙_}
 use mathlib.Core.List.{List}
 use mathlib.Core.Bool.{Bool, true, false, cond, _&&_}
 use mathlib.Core.Logic.{⊎-elim}
@@ -15,40 +15,40 @@ use Rattle.lists.proofs.Every.{any-at, any-of}
 use Rattle.lists.proofs.Lowest.{lowest-holds, lowest-below, lowest-any, lowest-is}
 use Rattle.plan.specs.declared.Plan.{Plan}
 use Rattle.plan.specs.Plan.{at, successors, Successor, creates}
-use Rattle.rules.specs.Rules.{Rule11, Kept, EdgeRules}
-use Rattle.rules.specs.Judge.{Breach, Verdict, Accepted, Broken, firstIn, lowestOffender, creator, nextCreator, check11, checkEdge, checkEdges, offends12, offends13, offends14, offends15, offends16}
-use Rattle.rules.specs.Broken.{breach, CreatedTwice, Lowest, EdgeBroken, broken12, broken13, broken14, broken15, broken16, EarlierEdges}
-use Rattle.rules.proofs.Walk.{Decided, test-accepted, test-broken, test-decided, or-accepted, or-both, or-broken, or-decided, or-first, or-later, below-each, below-all, below-stop, below-decided, below-broken, in-broken, in-each, in-all, in-stop, in-decided}
+use Rattle.rules.specs.Rules.{Rule11, Kept, Each, RowHolds, EdgeRules}
+use Rattle.rules.specs.Judge.{Breach, Verdict, Accepted, Broken, firstIn, lowestOffender, creator, nextCreator, check11, EdgeRule, edgeRules, checkEdge, checkEdges}
+use Rattle.rules.specs.Broken.{breach, CreatedTwice, Lowest, EdgeBroken, EarlierEdges}
+use Rattle.rules.proofs.Walk.{Decided, test-accepted, test-broken, test-decided, below-each, below-all, below-stop, below-decided, below-broken, each-map, each-among, among-each, in-broken, in-each, in-all, in-stop, in-decided}
 
 -- ---- the lowest offender
 
 module _ (plan : Plan) (rule X Y : ℕ) (offends : ℕ → Bool) where
-  none-found : any (plan .identifiers) offends ≡ false → lowestOffender plan rule X Y offends ≡ Accepted
+  none-found : any (plan .identifiers) offends ≡ false → lowestOffender (plan .identifiers) rule X Y offends ≡ Accepted
   unfolding lowestOffender
   none-found e = ap (λ (c : Bool). cond c (Broken (breach rule X Y (lowest (plan .identifiers) offends))) Accepted) (lowest-any (plan .identifiers) offends ∙ e)
 
-  pub offender-kept : lowestOffender plan rule X Y offends ≡ Accepted → Kept plan offends
+  pub offender-kept : lowestOffender (plan .identifiers) rule X Y offends ≡ Accepted → Kept plan offends
   unfolding lowestOffender
   offender-kept e = any-at (plan .identifiers) offends (sym (lowest-any (plan .identifiers) offends) ∙ test-accepted (ltb (lowest (plan .identifiers) offends) (plan .identifiers)) _ e)
 
-  pub kept-offender : Kept plan offends → lowestOffender plan rule X Y offends ≡ Accepted
+  pub kept-offender : Kept plan offends → lowestOffender (plan .identifiers) rule X Y offends ≡ Accepted
   kept-offender k = none-found (any-of (plan .identifiers) offends k)
 
-  pub offender-found : (b : Breach) → lowestOffender plan rule X Y offends ≡ Broken b → (i : ℕ) × Lowest plan offends i × (breach rule X Y i ≡ b)
+  pub offender-found : (b : Breach) → lowestOffender (plan .identifiers) rule X Y offends ≡ Broken b → (i : ℕ) × Lowest plan offends i × (breach rule X Y i ≡ b)
   unfolding lowestOffender
   offender-found b e =
       let r = test-broken (ltb (lowest (plan .identifiers) offends) (plan .identifiers)) (breach rule X Y (lowest (plan .identifiers) offends)) b e in
       let l = ltb-true (lowest (plan .identifiers) offends) (plan .identifiers) (r .0) in
       (lowest (plan .identifiers) offends, record { identifier = l; breaks = lowest-holds (plan .identifiers) offends l; lowest = lowest-below (plan .identifiers) offends }, r .1)
 
-  pub found-offender : (i : ℕ) → Lowest plan offends i → lowestOffender plan rule X Y offends ≡ Broken (breach rule X Y i)
+  pub found-offender : (i : ℕ) → Lowest plan offends i → lowestOffender (plan .identifiers) rule X Y offends ≡ Broken (breach rule X Y i)
   unfolding lowestOffender
   found-offender i l =
       let e : lowest (plan .identifiers) offends ≡ i = lowest-is (plan .identifiers) offends i (l .identifier) (l .breaks) (l .lowest) in
       ap (λ (j : ℕ). cond (ltb j (plan .identifiers)) (Broken (breach rule X Y j)) Accepted) e
       ∙ ap (λ (c : Bool). cond c (Broken (breach rule X Y i)) Accepted) (lt-ltb i (plan .identifiers) (l .identifier))
 
-  pub offender-decided : Decided (lowestOffender plan rule X Y offends)
+  pub offender-decided : Decided (lowestOffender (plan .identifiers) rule X Y offends)
   unfolding lowestOffender
   offender-decided = test-decided (ltb (lowest (plan .identifiers) offends) (plan .identifiers)) _
 
@@ -173,88 +173,55 @@ module _ (plan : Plan) where
   unfolding check11
   decided11 = test-decided (ltb (lowest (plan .identifiers) twice) (plan .identifiers)) _
 
--- ---- 12 to 16 on one edge
+-- ---- the rows of the table, on one edge
 
 module _ (plan : Plan) (X Y : ℕ) where
-  abbrev v12 : Verdict
-  v12 = lowestOffender plan 12 X Y (offends12 (at plan X .lab) (at plan Y))
+  abbrev offendsAs : EdgeRule → ℕ → Bool
+  offendsAs r = r .offends (at plan X .lab) (at plan X) (at plan Y)
 
-  abbrev v13 : Verdict
-  v13 = lowestOffender plan 13 X Y (offends13 (at plan X .lab) (at plan Y))
+  abbrev asked : EdgeRule → Verdict
+  asked r = lowestOffender (plan .identifiers) (r .number) X Y (offendsAs r)
 
-  abbrev v14 : Verdict
-  v14 = lowestOffender plan 14 X Y (offends14 (at plan X) (at plan Y))
+  rows-hold : (rows : List EdgeRule) → Each (λ r. asked r ≡ Accepted) rows → Each (RowHolds plan X Y) rows
+  rows-hold = each-map (λ r. offender-kept plan (r .number) X Y (offendsAs r))
 
-  abbrev v15 : Verdict
-  v15 = lowestOffender plan 15 X Y (offends15 (at plan X) (at plan Y))
-
-  abbrev v16 : Verdict
-  v16 = lowestOffender plan 16 X Y (offends16 (at plan X .lab) (at plan Y))
+  hold-rows : (rows : List EdgeRule) → Each (RowHolds plan X Y) rows → Each (λ r. asked r ≡ Accepted) rows
+  hold-rows = each-map (λ r. kept-offender plan (r .number) X Y (offendsAs r))
 
   pub edge-rules : checkEdge plan X Y ≡ Accepted → EdgeRules plan X Y
   unfolding checkEdge
-  edge-rules e =
-      let a = or-accepted v12 _ e in
-      let b = or-accepted v13 _ (a .1) in
-      let c = or-accepted v14 _ (b .1) in
-      let d = or-accepted v15 v16 (c .1) in
-      record {
-        rule12 = offender-kept plan 12 X Y _ (a .0);
-        rule13 = offender-kept plan 13 X Y _ (b .0);
-        rule14 = offender-kept plan 14 X Y _ (c .0);
-        rule15 = offender-kept plan 15 X Y _ (d .0);
-        rule16 = offender-kept plan 16 X Y _ (d .1);
-      }
+  edge-rules e = rows-hold edgeRules (in-each edgeRules asked e)
 
   pub rules-edge : EdgeRules plan X Y → checkEdge plan X Y ≡ Accepted
   unfolding checkEdge
-  rules-edge r =
-      or-both v12 _ (kept-offender plan 12 X Y _ (r .rule12))
-      (or-both v13 _ (kept-offender plan 13 X Y _ (r .rule13))
-      (or-both v14 _ (kept-offender plan 14 X Y _ (r .rule14))
-      (or-both v15 v16 (kept-offender plan 15 X Y _ (r .rule15)) (kept-offender plan 16 X Y _ (r .rule16)))))
-
-  found : {b : Breach} (rule : ℕ) (offends : ℕ → Bool) → ((i : ℕ) → Lowest plan offends i → EdgeBroken plan X Y (breach rule X Y i)) → lowestOffender plan rule X Y offends ≡ Broken b → EdgeBroken plan X Y b
-  found {b} rule offends as′ e = let r = offender-found plan rule X Y offends b e in subst (EdgeBroken plan X Y) (r .2) (as′ (r .0) (r .1))
+  rules-edge r = in-all edgeRules asked (hold-rows edgeRules r)
 
   pub edge-broken : (b : Breach) → checkEdge plan X Y ≡ Broken b → EdgeBroken plan X Y b
   unfolding checkEdge
-  edge-broken b e = ⊎-elim (found 12 _ (λ i l. broken12 l)) (λ h₁.
-      let k₁ = offender-kept plan 12 X Y _ (h₁ .0) in
-      ⊎-elim (found 13 _ (λ i l. broken13 k₁ l)) (λ h₂.
-      let k₂ = offender-kept plan 13 X Y _ (h₂ .0) in
-      ⊎-elim (found 14 _ (λ i l. broken14 k₁ k₂ l)) (λ h₃.
-      let k₃ = offender-kept plan 14 X Y _ (h₃ .0) in
-      ⊎-elim (found 15 _ (λ i l. broken15 k₁ k₂ k₃ l)) (λ h₄.
-      let k₄ = offender-kept plan 15 X Y _ (h₄ .0) in
-      found 16 _ (λ i l. broken16 k₁ k₂ k₃ k₄ l) (h₄ .1))
-      (or-broken v15 v16 b (h₃ .1)))
-      (or-broken v14 _ b (h₂ .1)))
-      (or-broken v13 _ b (h₁ .1)))
-      (or-broken v12 _ b e)
+  edge-broken b e =
+      let s = in-stop edgeRules asked b e in
+      let found = offender-found plan (s .element .number) X Y (offendsAs (s .element)) b (s .there) in
+      record {
+        before = s .before;
+        row = s .element;
+        after = s .after;
+        order = s .split;
+        earlier = rows-hold (s .before) (s .earlier);
+        identifier = found .0;
+        lowest = found .1;
+        named = found .2;
+      }
 
   pub broken-edge : (b : Breach) → EdgeBroken plan X Y b → checkEdge plan X Y ≡ Broken b
   unfolding checkEdge
-  broken-edge b (broken12 l) = or-first v12 _ _ (found-offender plan 12 X Y _ _ l)
-  broken-edge b (broken13 k₁ l) =
-      or-later v12 _ _ (kept-offender plan 12 X Y _ k₁) (or-first v13 _ _ (found-offender plan 13 X Y _ _ l))
-  broken-edge b (broken14 k₁ k₂ l) =
-      or-later v12 _ _ (kept-offender plan 12 X Y _ k₁)
-      (or-later v13 _ _ (kept-offender plan 13 X Y _ k₂) (or-first v14 _ _ (found-offender plan 14 X Y _ _ l)))
-  broken-edge b (broken15 k₁ k₂ k₃ l) =
-      or-later v12 _ _ (kept-offender plan 12 X Y _ k₁)
-      (or-later v13 _ _ (kept-offender plan 13 X Y _ k₂)
-      (or-later v14 _ _ (kept-offender plan 14 X Y _ k₃) (or-first v15 v16 _ (found-offender plan 15 X Y _ _ l))))
-  broken-edge b (broken16 k₁ k₂ k₃ k₄ l) =
-      or-later v12 _ _ (kept-offender plan 12 X Y _ k₁)
-      (or-later v13 _ _ (kept-offender plan 13 X Y _ k₂)
-      (or-later v14 _ _ (kept-offender plan 14 X Y _ k₃)
-      (or-later v15 v16 _ (kept-offender plan 15 X Y _ k₄) (found-offender plan 16 X Y _ _ l))))
+  broken-edge b k =
+      ap (λ (rows : List EdgeRule). firstIn rows asked) (k .order)
+      ∙ in-broken (k .before) (k .row) (k .after) asked b (hold-rows (k .before) (k .earlier))
+      (found-offender plan (k .row .number) X Y (offendsAs (k .row)) (k .identifier) (k .lowest) ∙ ap Broken (k .named))
 
   pub edge-decided : Decided (checkEdge plan X Y)
   unfolding checkEdge
-  edge-decided =
-      or-decided v12 _ (offender-decided plan 12 X Y _) (or-decided v13 _ (offender-decided plan 13 X Y _) (or-decided v14 _ (offender-decided plan 14 X Y _) (or-decided v15 v16 (offender-decided plan 15 X Y _) (offender-decided plan 16 X Y _))))
+  edge-decided = in-decided edgeRules asked (λ r. offender-decided plan (r .number) X Y (offendsAs r))
 
 -- ---- all edges
 
@@ -262,13 +229,23 @@ module _ (plan : Plan) where
   abbrev from : ℕ → Verdict
   from X = firstIn (successors (at plan X .form)) (checkEdge plan X)
 
+  from-rules : (X : ℕ) → from X ≡ Accepted → (Y : ℕ) → Successor plan X Y → EdgeRules plan X Y
+  from-rules X e =
+      each-among (EdgeRules plan X) (successors (at plan X .form))
+      (each-map (edge-rules plan X) (successors (at plan X .form)) (in-each (successors (at plan X .form)) (checkEdge plan X) e))
+
+  rules-from : (X : ℕ) → ((Y : ℕ) → Successor plan X Y → EdgeRules plan X Y) → from X ≡ Accepted
+  rules-from X r =
+      in-all (successors (at plan X .form)) (checkEdge plan X)
+      (among-each (λ Y. checkEdge plan X Y ≡ Accepted) (successors (at plan X .form)) (λ Y s. rules-edge plan X Y (r Y s)))
+
   pub edges-rules : checkEdges plan ≡ Accepted → (X Y : ℕ) → X < plan .count → Successor plan X Y → EdgeRules plan X Y
   unfolding checkEdges
-  edges-rules e X Y l s = edge-rules plan X Y (in-each (successors (at plan X .form)) (checkEdge plan X) (below-each (plan .count) from e X l) Y s)
+  edges-rules e X Y l = from-rules X (below-each (plan .count) from e X l) Y
 
   pub rules-edges : ((X Y : ℕ) → X < plan .count → Successor plan X Y → EdgeRules plan X Y) → checkEdges plan ≡ Accepted
   unfolding checkEdges
-  rules-edges r = below-all (plan .count) from (λ X l. in-all (successors (at plan X .form)) (checkEdge plan X) (λ Y s. rules-edge plan X Y (r X Y l s)))
+  rules-edges r = below-all (plan .count) from (λ X l. rules-from X (λ Y. r X Y l))
 
   pub edges-broken : (b : Breach) → checkEdges plan ≡ Broken b → (X Y : ℕ) × EarlierEdges plan X Y × EdgeBroken plan X Y b
   unfolding checkEdges
@@ -280,11 +257,11 @@ module _ (plan : Plan) where
         i .element,
         record {
           inside = o .inside;
-          lower = λ W Z l s. edge-rules plan W Z (in-each (successors (at plan W .form)) (checkEdge plan W) (o .earlier W l) Z s);
+          lower = λ W Z l. from-rules W (o .earlier W l) Z;
           before = i .before;
           after = i .after;
           order = i .split;
-          same = λ Z k. edge-rules plan X Z (i .earlier Z k);
+          same = each-map (edge-rules plan X) (i .before) (i .earlier);
         },
         edge-broken plan X (i .element) b (i .there),
       )
@@ -292,10 +269,9 @@ module _ (plan : Plan) where
   pub broken-edges : (X Y : ℕ) (b : Breach) → EarlierEdges plan X Y → EdgeBroken plan X Y b → checkEdges plan ≡ Broken b
   unfolding checkEdges
   broken-edges X Y b e k =
-      below-broken (plan .count) from X b (e .inside)
-      (λ W l. in-all (successors (at plan W .form)) (checkEdge plan W) (λ Z s. rules-edge plan W Z (e .lower W Z l s)))
+      below-broken (plan .count) from X b (e .inside) (λ W l. rules-from W (λ Z. e .lower W Z l))
       (ap (λ (l : List ℕ). firstIn l (checkEdge plan X)) (e .order)
-      ∙ in-broken (e .before) Y (e .after) (checkEdge plan X) b (λ Z s. rules-edge plan X Z (e .same Z s)) (broken-edge plan X Y b k))
+      ∙ in-broken (e .before) Y (e .after) (checkEdge plan X) b (each-map (rules-edge plan X) (e .before) (e .same)) (broken-edge plan X Y b k))
 
   pub edges-decided : Decided (checkEdges plan)
   unfolding checkEdges

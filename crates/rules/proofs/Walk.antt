@@ -11,6 +11,7 @@ use native.Mathlib.Omega.{arith}
 use Rattle.lists.proofs.Tests.{lt-or-le}
 use Rattle.plan.specs.Plan.{Among}
 use Rattle.rules.specs.Judge.{Fault, Breach, Verdict, Accepted, Broken, Unread, orElse, firstBelow, firstIn}
+use Rattle.rules.specs.Rules.{Each}
 use Rattle.rules.specs.Broken.{accepted}
 
 -- ---- telling verdicts apart
@@ -195,48 +196,62 @@ below-alike n k f alike e =
 
 -- ---- a list
 
-pub in-each : (l : List ℕ) (f : ℕ → Verdict) → firstIn l f ≡ Accepted → (Y : ℕ) → Among Y l → f Y ≡ Accepted
-unfolding firstIn
-in-each [] f e Y h = absurd h
-in-each (X ∷ l) f e Y h =
-    ⊎-elim (λ q. ap f q ∙ or-accepted (f X) (firstIn l f) e .0) (in-each l f (or-accepted (f X) (firstIn l f) e .1) Y) h
+-- What holds of each element is carried over to another property,
+pub each-map : {A : Type 0} {P Q : A → Type 0} → ((x : A) → P x → Q x) → (l : List A) → Each P l → Each Q l
+each-map f [] e = tt
+each-map f (x ∷ l) e = (f x (e .0), each-map f l (e .1))
 
-pub in-all : (l : List ℕ) (f : ℕ → Verdict) → ((Y : ℕ) → Among Y l → f Y ≡ Accepted) → firstIn l f ≡ Accepted
-unfolding firstIn
-in-all [] f h = refl
-in-all (X ∷ l) f h = or-both (f X) (firstIn l f) (h X (inl refl)) (in-all l f (λ Y k. h Y (inr k)))
+-- and of a list of numbers it is what holds of all that stand in it.
+pub each-among : (P : ℕ → Type 0) (l : List ℕ) → Each P l → (Y : ℕ) → Among Y l → P Y
+each-among P [] e Y h = absurd h
+each-among P (X ∷ l) e Y h = ⊎-elim (λ q. subst P (sym q) (e .0)) (each-among P l (e .1) Y) h
 
-pub record StopIn (l : List ℕ) (f : ℕ → Verdict) (b : Breach) : Type 0 where
-  pub before : List ℕ
-  pub element : ℕ
-  pub after : List ℕ
-  pub split : l ≡ before ++ (element ∷ after)
-  pub there : f element ≡ Broken b
-  pub earlier : (Y : ℕ) → Among Y before → f Y ≡ Accepted
+pub among-each : (P : ℕ → Type 0) (l : List ℕ) → ((Y : ℕ) → Among Y l → P Y) → Each P l
+among-each P [] h = tt
+among-each P (X ∷ l) h = (h X (inl refl), among-each P l (λ Y k. h Y (inr k)))
 
-pub in-stop : (l : List ℕ) (f : ℕ → Verdict) (b : Breach) → firstIn l f ≡ Broken b → StopIn l f b
-unfolding firstIn
-in-stop [] f b e = absurd (broken-accepted (sym e))
-in-stop (X ∷ l) f b e =
-    ⊎-elim (λ h. record { before = []; element = X; after = l; split = refl; there = h; earlier = λ Y k. absurd k })
-    (λ h. let s = in-stop l f b (h .1) in record {
-      before = X ∷ s .before;
-      element = s .element;
-      after = s .after;
-      split = ap (λ (r : List ℕ). X ∷ r) (s .split);
-      there = s .there;
-      earlier = λ Y k. ⊎-elim (λ q. ap f q ∙ h .0) (s .earlier Y) k;
-    })
-    (or-broken (f X) (firstIn l f) b e)
+module _ {A : Type 0} where
+  pub in-each : (l : List A) (f : A → Verdict) → firstIn l f ≡ Accepted → Each (λ x. f x ≡ Accepted) l
+  unfolding firstIn
+  in-each [] f e = tt
+  in-each (x ∷ l) f e = let r = or-accepted (f x) (firstIn l f) e in (r .0, in-each l f (r .1))
 
-pub in-broken : (before : List ℕ) (Y : ℕ) (after : List ℕ) (f : ℕ → Verdict) (b : Breach) → ((Z : ℕ) → Among Z before → f Z ≡ Accepted) → f Y ≡ Broken b
-    → firstIn (before ++ (Y ∷ after)) f ≡ Broken b
-unfolding firstIn
-in-broken [] Y after f b a e = or-first (f Y) (firstIn after f) b e
-in-broken (X ∷ before) Y after f b a e =
-    or-later (f X) (firstIn (before ++ (Y ∷ after)) f) b (a X (inl refl)) (in-broken before Y after f b (λ Z k. a Z (inr k)) e)
+  pub in-all : (l : List A) (f : A → Verdict) → Each (λ x. f x ≡ Accepted) l → firstIn l f ≡ Accepted
+  unfolding firstIn
+  in-all [] f h = refl
+  in-all (x ∷ l) f h = or-both (f x) (firstIn l f) (h .0) (in-all l f (h .1))
 
-pub in-decided : (l : List ℕ) (f : ℕ → Verdict) → ((Y : ℕ) → Decided (f Y)) → Decided (firstIn l f)
-unfolding firstIn
-in-decided [] f d = tt
-in-decided (X ∷ l) f d = or-decided (f X) (firstIn l f) (d X) (in-decided l f d)
+  pub record StopIn (l : List A) (f : A → Verdict) (b : Breach) : Type 0 where
+    pub before : List A
+    pub element : A
+    pub after : List A
+    pub split : l ≡ before ++ (element ∷ after)
+    pub there : f element ≡ Broken b
+    pub earlier : Each (λ x. f x ≡ Accepted) before
+
+  pub in-stop : (l : List A) (f : A → Verdict) (b : Breach) → firstIn l f ≡ Broken b → StopIn l f b
+  unfolding firstIn
+  in-stop [] f b e = absurd (broken-accepted (sym e))
+  in-stop (x ∷ l) f b e =
+      ⊎-elim (λ h. record { before = []; element = x; after = l; split = refl; there = h; earlier = tt })
+      (λ h. let s = in-stop l f b (h .1) in record {
+        before = x ∷ s .before;
+        element = s .element;
+        after = s .after;
+        split = ap (λ (r : List A). x ∷ r) (s .split);
+        there = s .there;
+        earlier = (h .0, s .earlier);
+      })
+      (or-broken (f x) (firstIn l f) b e)
+
+  pub in-broken : (before : List A) (y : A) (after : List A) (f : A → Verdict) (b : Breach) → Each (λ x. f x ≡ Accepted) before → f y ≡ Broken b
+      → firstIn (before ++ (y ∷ after)) f ≡ Broken b
+  unfolding firstIn
+  in-broken [] y after f b a e = or-first (f y) (firstIn after f) b e
+  in-broken (x ∷ before) y after f b a e =
+      or-later (f x) (firstIn (before ++ (y ∷ after)) f) b (a .0) (in-broken before y after f b (a .1) e)
+
+  pub in-decided : (l : List A) (f : A → Verdict) → ((x : A) → Decided (f x)) → Decided (firstIn l f)
+  unfolding firstIn
+  in-decided [] f d = tt
+  in-decided (x ∷ l) f d = or-decided (f x) (firstIn l f) (d x) (in-decided l f d)

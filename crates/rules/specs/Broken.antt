@@ -11,13 +11,13 @@ use Rattle.plan.specs.declared.Kind.{Kind}
 use Rattle.plan.specs.declared.Kind.the-variants.{Secrecy, Prot}
 use Rattle.plan.specs.declared.Assertion.{Assertion}
 use Rattle.plan.specs.declared.Policy.{Policy}
-use Rattle.plan.specs.Plan.{at, successors, Among, Successor, creates, assertionAt}
+use Rattle.plan.specs.Plan.{at, successors, Successor, creates, assertionAt}
 use Rattle.route.specs.Route.{SplitTag}
 use Rattle.rules.specs.declared.Breach.{Breach}
 use Rattle.rules.specs.declared.Verdict.{Verdict}
 use Rattle.rules.specs.declared.Verdict.the-variants.{Accepted, Broken, Unread}
-use Rattle.rules.specs.Rules.{Rule11, Kept, EdgeRules, Rule17, Rules18-19, Asked}
-use Rattle.rules.specs.Judge.{offends12, offends13, offends14, offends15, offends16}
+use Rattle.rules.specs.Rules.{Rule11, Each, RowHolds, EdgeRules, Rule17, Rules18-19, Asked}
+use Rattle.rules.specs.Judge.{EdgeRule, edgeRules}
 
 abbrev pub breach : ℕ → ℕ → ℕ → ℕ → Breach
 breach rule first second identifier = record { rule = rule; first = first; second = second; identifier = identifier }
@@ -43,33 +43,16 @@ pub record Lowest (plan : Plan) (offends : ℕ → Bool) (i : ℕ) : Type 0 wher
   pub breaks : offends i ≡ true
   pub lowest : (j : ℕ) → j < i → offends j ≡ false
 
--- An edge, "each tested 12 to 16".
-pub data EdgeBroken (plan : Plan) (X Y : ℕ) : Breach → Type 0 where
-  broken12 : {i : ℕ}
-      → Lowest plan (offends12 (at plan X .lab) (at plan Y)) i
-      → EdgeBroken plan X Y (breach 12 X Y i)
-  broken13 : {i : ℕ}
-      → Kept plan (offends12 (at plan X .lab) (at plan Y))
-      → Lowest plan (offends13 (at plan X .lab) (at plan Y)) i
-      → EdgeBroken plan X Y (breach 13 X Y i)
-  broken14 : {i : ℕ}
-      → Kept plan (offends12 (at plan X .lab) (at plan Y))
-      → Kept plan (offends13 (at plan X .lab) (at plan Y))
-      → Lowest plan (offends14 (at plan X) (at plan Y)) i
-      → EdgeBroken plan X Y (breach 14 X Y i)
-  broken15 : {i : ℕ}
-      → Kept plan (offends12 (at plan X .lab) (at plan Y))
-      → Kept plan (offends13 (at plan X .lab) (at plan Y))
-      → Kept plan (offends14 (at plan X) (at plan Y))
-      → Lowest plan (offends15 (at plan X) (at plan Y)) i
-      → EdgeBroken plan X Y (breach 15 X Y i)
-  broken16 : {i : ℕ}
-      → Kept plan (offends12 (at plan X .lab) (at plan Y))
-      → Kept plan (offends13 (at plan X .lab) (at plan Y))
-      → Kept plan (offends14 (at plan X) (at plan Y))
-      → Kept plan (offends15 (at plan X) (at plan Y))
-      → Lowest plan (offends16 (at plan X .lab) (at plan Y)) i
-      → EdgeBroken plan X Y (breach 16 X Y i)
+-- An edge, "each tested 12 to 16": a row is broken, and those before it hold.
+pub record EdgeBroken (plan : Plan) (X Y : ℕ) (b : Breach) : Type 0 where
+  pub before : List EdgeRule
+  pub row : EdgeRule
+  pub after : List EdgeRule
+  pub order : edgeRules ≡ before ++ (row ∷ after)
+  pub earlier : Each (RowHolds plan X Y) before
+  pub identifier : ℕ
+  pub lowest : Lowest plan (row .offends (at plan X .lab) (at plan X) (at plan Y)) identifier
+  pub named : breach (row .number) X Y identifier ≡ b
 
 -- "Edges X to Y, X rising, in form order": those before this one hold.
 pub record EarlierEdges (plan : Plan) (X Y : ℕ) : Type 0 where
@@ -78,7 +61,7 @@ pub record EarlierEdges (plan : Plan) (X Y : ℕ) : Type 0 where
   pub before : List ℕ
   pub after : List ℕ
   pub order : successors (at plan X .form) ≡ before ++ (Y ∷ after)
-  pub same : (Z : ℕ) → Among Z before → EdgeRules plan X Z
+  pub same : Each (EdgeRules plan X) before
 
 -- "For prot, identifiers of lab Source rising": t is one, and those before it hold.
 pub record EarlierIdentifiers (plan : Plan) (a : Assertion) (t : ℕ) : Type 0 where

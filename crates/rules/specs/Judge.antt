@@ -1,9 +1,9 @@
 -- Rules 11 to 19, and the verdict: the first broken rule in document 01's order, with its figures ("The judge").
--- Believed: everything here. Proved against it: crates edges, assertions and verdict; rules 12, 13 and 16 also crate stepping.
+-- Believed: everything here. Proved against it: crates offenders, edges, assertions and verdict; stepRules also crate stepping.
 use Prim.Native.{Nat.{ℕ, zero, suc}, String.{String}}
 use mathlib.Core.{Bool.{Bool, not, cond, _&&_, _||_}, List.{List, [], _∷_}}
-use lib.Dec.{ltb}
-use Rattle.lists.specs.Numbers.{every, any, lowest}
+use lib.Dec.{eqb, ltb}
+use Rattle.lists.specs.Numbers.{every, any, lowest, all}
 use Rattle.mask.specs.Mask.{has}
 use Rattle.plan.specs.declared.{Template.{Template}, Plan.{Plan}, Kind.{Kind, the-variants.{Secrecy, Prot}}}
 use Rattle.plan.specs.declared.{Assertion.{Assertion}, Policy.{Policy}}
@@ -29,15 +29,15 @@ firstBelow zero f = Accepted
 firstBelow (suc n) f = orElse (f zero) (firstBelow n (λ i. f (suc i)))
 
 -- The same over a list.
-unfoldable pub firstIn : List ℕ → (ℕ → Verdict) → Verdict
+unfoldable pub firstIn : {A : Type 0} → List A → (A → Verdict) → Verdict
 firstIn [] f = Accepted
-firstIn (X ∷ rest) f = orElse (f X) (firstIn rest f)
+firstIn (x ∷ rest) f = orElse (f x) (firstIn rest f)
 
--- "The lowest identifier that breaks it."
-unfoldable pub lowestOffender : Plan → ℕ → ℕ → ℕ → (ℕ → Bool) → Verdict
-lowestOffender plan rule first second offends =
-    let i = lowest (plan .identifiers) offends in
-    cond (ltb i (plan .identifiers)) (broken rule first second i) Accepted
+-- "The lowest identifier that breaks it", of M identifiers.
+unfoldable pub lowestOffender : ℕ → ℕ → ℕ → ℕ → (ℕ → Bool) → Verdict
+lowestOffender M rule first second offends =
+    let i = lowest M offends in
+    cond (ltb i M) (broken rule first second i) Accepted
 
 -- 11: "an identifier is created by two templates (lowest identifier; its two lowest templates)".
 unfoldable pub creator : Plan → ℕ → ℕ
@@ -54,33 +54,46 @@ check11 plan =
 -- What identifier i does against a rule on the edge from X to Y. lab is lab X; a step asks the same of a process's
 -- label in its place.
 -- 12: "lab Y within lab X plus pos Y".
-abbrev pub offends12 : ℕ → Template → ℕ → Bool
-offends12 lab Y i = has i (Y .lab) && not (has i lab || has i (Y .pos))
+abbrev pub offends12 : ℕ → Template → Template → ℕ → Bool
+offends12 lab X Y i = has i (Y .lab) && not (has i lab || has i (Y .pos))
 
 -- 13: "lab X minus neg Y within lab Y".
-abbrev pub offends13 : ℕ → Template → ℕ → Bool
-offends13 lab Y i = (has i lab && not (has i (Y .neg))) && not (has i (Y .lab))
+abbrev pub offends13 : ℕ → Template → Template → ℕ → Bool
+offends13 lab X Y i = (has i lab && not (has i (Y .neg))) && not (has i (Y .lab))
 
 -- 14: "pos Y within pos X plus creates Y".
-abbrev pub offends14 : Template → Template → ℕ → Bool
-offends14 X Y i = has i (Y .pos) && not (has i (X .pos) || has i (Y .creates))
+abbrev pub offends14 : ℕ → Template → Template → ℕ → Bool
+offends14 lab X Y i = has i (Y .pos) && not (has i (X .pos) || has i (Y .creates))
 
 -- 15: "neg Y within neg X plus creates Y".
-abbrev pub offends15 : Template → Template → ℕ → Bool
-offends15 X Y i = has i (Y .neg) && not (has i (X .neg) || has i (Y .creates))
+abbrev pub offends15 : ℕ → Template → Template → ℕ → Bool
+offends15 lab X Y i = has i (Y .neg) && not (has i (X .neg) || has i (Y .creates))
 
 -- 16: "creates Y and lab X share nothing".
-abbrev pub offends16 : ℕ → Template → ℕ → Bool
-offends16 lab Y i = has i (Y .creates) && has i lab
+abbrev pub offends16 : ℕ → Template → Template → ℕ → Bool
+offends16 lab X Y i = has i (Y .creates) && has i lab
 
--- "Each tested 12 to 16."
+pub record EdgeRule : Type 0 where
+  pub number : ℕ
+  pub offends : ℕ → Template → Template → ℕ → Bool
+
+abbrev rule : ℕ → (ℕ → Template → Template → ℕ → Bool) → EdgeRule
+rule number offends = record { number = number; offends = offends }
+
+-- "Each tested 12 to 16"; and "rules 12, 13, 16", which a step asks.
+unfoldable pub edgeRules : List EdgeRule
+edgeRules = rule 12 offends12 ∷ rule 13 offends13 ∷ rule 14 offends14 ∷ rule 15 offends15 ∷ rule 16 offends16 ∷ []
+
+unfoldable pub stepRules : List EdgeRule
+stepRules = rule 12 offends12 ∷ rule 13 offends13 ∷ rule 16 offends16 ∷ []
+
+-- Some row has that number.
+unfoldable pub isEdgeRule : ℕ → Bool
+isEdgeRule number = not (all (λ (r : EdgeRule). not (eqb number (r .number))) edgeRules)
+
 unfoldable pub checkEdge : Plan → ℕ → ℕ → Verdict
 checkEdge plan X Y =
-    orElse (lowestOffender plan 12 X Y (offends12 (at plan X .lab) (at plan Y)))
-    (orElse (lowestOffender plan 13 X Y (offends13 (at plan X .lab) (at plan Y)))
-    (orElse (lowestOffender plan 14 X Y (offends14 (at plan X) (at plan Y)))
-    (orElse (lowestOffender plan 15 X Y (offends15 (at plan X) (at plan Y)))
-    (lowestOffender plan 16 X Y (offends16 (at plan X .lab) (at plan Y))))))
+    firstIn edgeRules (λ r. lowestOffender (plan .identifiers) (r .number) X Y (r .offends (at plan X .lab) (at plan X) (at plan Y)))
 
 -- "Edges X to Y, X rising, in form order."
 unfoldable pub checkEdges : Plan → Verdict

@@ -4,6 +4,7 @@ use Prim.Native.Nat.{ℕ, _<_}
 use mathlib.Core.Path.{_≡_}
 use mathlib.Core.Logic.{_⊎_}
 use mathlib.Core.Bool.{Bool, true, false}
+use mathlib.Core.List.{List, [], _∷_}
 use Rattle.mask.specs.Mask.{has}
 use Rattle.plan.specs.declared.Plan.{Plan}
 use Rattle.plan.specs.declared.Kind.{Kind}
@@ -12,7 +13,7 @@ use Rattle.plan.specs.declared.Assertion.{Assertion}
 use Rattle.plan.specs.declared.Policy.{Policy}
 use Rattle.plan.specs.Plan.{at, Successor, creates, assertionAt}
 use Rattle.route.specs.Route.{SharedTag, SplitTag}
-use Rattle.rules.specs.Judge.{offends12, offends13, offends14, offends15, offends16, wearable}
+use Rattle.rules.specs.Judge.{EdgeRule, edgeRules, wearable}
 
 -- 11: "an identifier is created by two templates".
 abbrev pub Rule11 : Plan → Type 0
@@ -24,13 +25,18 @@ Rule11 plan =
 abbrev pub Kept : Plan → (ℕ → Bool) → Type 0
 Kept plan offends = (i : ℕ) → i < plan .identifiers → offends i ≡ false
 
+-- Something holds of each element of a list.
+abbrev pub Each : {A : Type 0} → (A → Type 0) → List A → Type 0
+Each P [] = Unit {0}
+Each P (x ∷ rest) = P x × Each P rest
+
+-- A row of the table holds on one edge.
+abbrev pub RowHolds : Plan → ℕ → ℕ → EdgeRule → Type 0
+RowHolds plan X Y r = Kept plan (r .offends (at plan X .lab) (at plan X) (at plan Y))
+
 -- Rules 12 to 16 on one edge.
-pub record EdgeRules (plan : Plan) (X Y : ℕ) : Type 0 where
-  pub rule12 : Kept plan (offends12 (at plan X .lab) (at plan Y))
-  pub rule13 : Kept plan (offends13 (at plan X .lab) (at plan Y))
-  pub rule14 : Kept plan (offends14 (at plan X) (at plan Y))
-  pub rule15 : Kept plan (offends15 (at plan X) (at plan Y))
-  pub rule16 : Kept plan (offends16 (at plan X .lab) (at plan Y))
+abbrev pub EdgeRules : Plan → ℕ → ℕ → Type 0
+EdgeRules plan X Y = Each (RowHolds plan X Y) edgeRules
 
 -- 17: t "lies in lab Source, in no neg of a template outside Declass, and either not in lab Sink [..] or not Joined".
 pub record Serves (plan : Plan) (a : Assertion) (t : ℕ) : Type 0 where

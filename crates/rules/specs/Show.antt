@@ -1,11 +1,11 @@
 -- Where the shown part lies (document 01, "Showing").
 -- Believed: everything here. Proved against it: crate showing.
 use Prim.Native.Nat.{ℕ, zero, suc, _+_, _-_, _*_}
-use mathlib.Core.{Bool.{cond}, List.{List}}
-use lib.{Dec.{leb, ltb}, ListN.{length, take, drop}}
+use mathlib.Core.{Bool.{cond, _||_}, List.{List}}
+use lib.{Dec.{eqb, ltb}, ListN.{length, take, drop}}
 use Rattle.scan.specs.Bytes.{bytes, before}
 use Rattle.rules.specs.declared.Part.{Part}
-use Rattle.rules.specs.Judge.{Text, PlanText, PolicyText, Verdict, Accepted, Broken, Unread, judge}
+use Rattle.rules.specs.Judge.{Text, PlanText, PolicyText, Verdict, Accepted, Broken, Unread, isEdgeRule, judge}
 
 -- How many lines stand before the first template, in each template, before the first assertion, in each assertion.
 abbrev pub planHeader : ℕ
@@ -57,7 +57,8 @@ kindLine i policyText =
 
 unfoldable pub located : Verdict → List ℕ → List ℕ → Part
 located Accepted planText policyText = from PlanText 0 0
-located (Broken b) planText policyText = cond (leb (b .rule) 16) (nameOf (b .first) planText) (kindLine (b .first) policyText)
+located (Broken b) planText policyText =
+    cond (eqb (b .rule) 11 || isEdgeRule (b .rule)) (nameOf (b .first) planText) (kindLine (b .first) policyText)
 located (Unread f) planText policyText =
     let text = textOf (f .text) planText policyText in
     let start = faultyLine (f .line) text in

@@ -1,6 +1,6 @@
 // The judge's answers: their types, and the first of two that is not accepted.
 ghost use mathlib.Core.Path.{_≡_};
-ghost use Rattle.rules.specs.Judge.{orElse};
+ghost use Rattle.rules.specs.Judge.{orElse, isEdgeRule};
 ghost use Rattle.rules.specs.Broken.{accepted};
 
 // Which of the two texts.
@@ -55,4 +55,11 @@ pub fn or_else(v: Verdict, later: Verdict) -> Verdict
         return later;
     }
     v
+}
+
+// Whether a rule is one of those that are asked on an edge.
+pub fn is_edge_rule(rule: u8) -> bool
+    ensures { λ r. ⌜ r ≡ isEdgeRule rule ⌝ }
+{
+    (rule == 12) | (rule == 13) | (rule == 14) | (rule == 15) | (rule == 16)
 }

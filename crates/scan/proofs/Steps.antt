@@ -1,8 +1,10 @@
 -- One turn of each comparison at a place of the list: what holds of the rest there, from its first byte.
-use Prim.Native.Nat.{ℕ, suc, _+_, _≤_, _<_}
+use Prim.Native.Nat.{ℕ, zero, suc, _+_, _-_, _≤_, _<_, zero-le, suc-le-suc}
 use mathlib.Core.Path.{_≡_, refl, sym, ap, _∙_}
 use mathlib.Core.List.{List, [], _∷_}
 use mathlib.Core.Bool.{Bool, true, false, _&&_, false≢true}
+use mathlib.Core.Logic.{⊎-elim}
+use native.Mathlib.Nat.{not-suc-le-zero, le-of-suc-le-suc, zero-lt-suc}
 use native.Mathlib.Numerals.{add-one}
 use native.Mathlib.Omega.{arith}
 use lib.ListN.{length, getD, drop, drop-of-length-le}
@@ -10,7 +12,7 @@ use lib.Seq.{drop-cons}
 use lib.Dec.{eqb}
 use borrow.Author.Tests.{eq-eqb, ne-eqb}
 use Rattle.scan.specs.Bytes.{before, startsWith, same}
-use Rattle.lists.proofs.Tests.{told}
+use Rattle.lists.proofs.Tests.{told, lt-or-le}
 
 -- The list from a place on: its byte, and what follows.
 pub at-place : (s : List ℕ) (i : ℕ) → i < length s → drop i s ≡ getD s i 0 ∷ drop (i + 1) s
@@ -94,14 +96,6 @@ starts-room key s r e h = starts-long key s (told e h)
 
 -- ---- `same`
 
--- Lists of one length are the same exactly where the one begins the other.
-pub same-starts : (s t : List ℕ) → length s ≡ length t → startsWith t s ≡ same s t
-unfolding startsWith same
-same-starts [] [] e = refl
-same-starts [] (y ∷ t) e = absurd (omega arith)
-same-starts (x ∷ s) [] e = absurd (omega arith)
-same-starts (x ∷ s) (y ∷ t) e = ap (λ (b : Bool). eqb x y && b) (same-starts s t (omega arith))
-
 -- Lists of two lengths differ.
 pub same-lengths : (s t : List ℕ) → (length s ≡ length t → ⊥) → false ≡ same s t
 unfolding same
@@ -114,6 +108,50 @@ same-lengths (x ∷ s) (y ∷ t) d = go (eqb x y) (same-lengths s t (λ e. d (ap
     go true e = e
     go false e = refl
 
--- As a call answered it.
-pub same-answered : (s t : List ℕ) (r : Bool) → length s ≡ length t → r ≡ startsWith t s → r ≡ same s t
-same-answered s t r l e = e ∙ same-starts s t l
+-- Lists that differ at a place differ,
+pub same-apart : (s t : List ℕ) (i : ℕ) → i < length s → length s ≡ length t → (getD s i 0 ≡ getD t i 0 → ⊥) → false ≡ same s t
+unfolding same
+same-apart [] t i h e d = absurd (not-suc-le-zero h)
+same-apart (x ∷ s) [] i h e d = absurd (omega arith)
+same-apart (x ∷ s) (y ∷ t) zero h e d = rw (ne-eqb x y d) refl
+same-apart (x ∷ s) (y ∷ t) (suc i) h e d = go (eqb x y) (same-apart s t i (le-of-suc-le-suc h) (omega arith) d)
+  where
+    go : (b : Bool) → false ≡ same s t → false ≡ (b && same s t)
+    go true f = f
+    go false f = refl
+
+-- and those of one length that agree from a place on, which is the first, are the same.
+abbrev pub Agree : List ℕ → List ℕ → ℕ → Type 0
+Agree s t from = (i : ℕ) → from ≤ i → i < length s → getD s i 0 ≡ getD t i 0
+
+pub same-throughout : (s t : List ℕ) → length s ≡ length t → Agree s t 0 → true ≡ same s t
+unfolding same
+same-throughout [] [] e a = refl
+same-throughout [] (y ∷ t) e a = absurd (omega arith)
+same-throughout (x ∷ s) [] e a = absurd (omega arith)
+same-throughout (x ∷ s) (y ∷ t) e a =
+    rw (eq-eqb x y (a 0 zero-le (zero-lt-suc (length s)))) (same-throughout s t (omega arith) (λ i z h. a (suc i) zero-le (suc-le-suc h)))
+
+-- A loop that counts down keeps `Tail s t i`; its beginning, its turn and its two ends.
+pub record Tail (s t : List ℕ) (i : ℕ) : Type 0 where
+  pub inside : i ≤ length s
+  pub lengths : length s ≡ length t
+  pub agree : Agree s t i
+
+pub tail-begun : (s t : List ℕ) → length s ≡ length t → Tail s t (length s)
+tail-begun s t e = record { inside = omega arith; lengths = e; agree = λ i l h. absurd (omega arith) }
+
+module _ (s t : List ℕ) (i : ℕ) (so-far : Tail s t i) where
+  pub tail-on : 0 < i → getD s (i - 1) 0 ≡ getD t (i - 1) 0 → Tail s t (i - 1)
+  tail-on h e = record { inside = (let g = so-far .inside in omega arith); lengths = so-far .lengths; agree = more }
+    where
+      more : Agree s t (i - 1)
+      more j l k =
+          ⊎-elim (λ g. let q : j ≡ i - 1 = omega arith in ap (λ (z : ℕ). getD s z 0) q ∙ e ∙ ap (λ (z : ℕ). getD t z 0) (sym q))
+          (λ g. so-far .agree j g k) (lt-or-le j i)
+
+  pub tail-differs : 0 < i → (getD s (i - 1) 0 ≡ getD t (i - 1) 0 → ⊥) → false ≡ same s t
+  tail-differs h d = same-apart s t (i - 1) (let g = so-far .inside in omega arith) (so-far .lengths) d
+
+  pub tail-whole : i ≤ 0 → true ≡ same s t
+  tail-whole h = same-throughout s t (so-far .lengths) (λ j l k. so-far .agree j (omega arith) k)

@@ -35,14 +35,21 @@ pub fn starts_with(s: &[u8], key: &[u8]) -> bool
     true
 }
 
-// Whether s and t are the same, byte for byte.
+// Whether s and t are the same, byte for byte. From the end on: names that are numbered differ there first.
 pub fn same_bytes(s: &[u8], t: &[u8]) -> bool
     ensures { λ r. ⌜ r ≡ same (now (s .entry)) (now (t .entry)) ⌝ }
 {
     if s.len() != t.len() {
         return false;
     }
-    starts_with(s, t)
+    let mut i = s.len();
+    while 0 < i {
+        i -= 1;
+        if s[i] != t[i] {
+            return false;
+        }
+    }
+    true
 }
 
 // The bytes from start to end, those of them that the text has.

@@ -1,10 +1,10 @@
 -- The part that a verdict shows: where it lies, and its bytes.
-use Prim.Native.Nat.{ℕ, _+_, _-_, _*_, _≤_, _<_}
+use Prim.Native.Nat.{ℕ, _+_, _-_, _*_}
 use mathlib.Core.Path.{_≡_, sym, ap, ap₂, _∙_}
-use mathlib.Core.Bool.{Bool, cond}
+use mathlib.Core.Bool.{Bool, true, false, cond, _||_}
 use mathlib.Core.List.{List}
+use lib.Dec.{eqb}
 use lib.ListN.{take, drop}
-use borrow.Author.Tests.{le-leb, lt-leb}
 use Rattle.rules.specs.declared.Text.{Text}
 use Rattle.rules.specs.declared.Text.the-variants.{Plan as PlanText, Policy as PolicyText}
 use Rattle.rules.specs.declared.Fault.{Fault}
@@ -13,7 +13,7 @@ use Rattle.rules.specs.declared.Verdict.{Verdict}
 use Rattle.rules.specs.declared.Verdict.the-variants.{Accepted, Broken, Unread}
 use Rattle.rules.specs.declared.Part.{Part}
 use Rattle.rules.specs.Show.{from, textOf, lineStart, lineEnd, faultyLine, nameOf, kindLine, located, locate, shown}
-use Rattle.rules.specs.Judge.{judge}
+use Rattle.rules.specs.Judge.{isEdgeRule, judge}
 use Rattle.showing.specs.Bytes.{within}
 
 -- ---- where it lies
@@ -51,15 +51,18 @@ module _ (plan policy : List ℕ) where
     unfolding located
     accepted-lies e = sym (ap (λ (x : Verdict). located x plan policy) e)
 
-    pub edge-lies : (b : Breach) (r : Part) → v ≡ Broken b → b .rule ≤ 16 → r ≡ nameOf (b .first) plan → r ≡ located v plan policy
-    unfolding located
-    edge-lies b r e h k =
-        k ∙ sym (ap (λ (x : Verdict). located x plan policy) e ∙ ap (λ (c : Bool). cond c (nameOf (b .first) plan) (kindLine (b .first) policy)) (le-leb (b .rule) 16 h))
+    module _ (b : Breach) (r : Part) (e : v ≡ Broken b) (edge : Bool) (q : edge ≡ isEdgeRule (b .rule)) where
+      part-by : (named : Bool) → (eqb (b .rule) 11 || edge) ≡ named → located v plan policy ≡ cond named (nameOf (b .first) plan) (kindLine (b .first) policy)
+      unfolding located
+      part-by named t =
+          ap (λ (x : Verdict). located x plan policy) e
+          ∙ ap (λ (c : Bool). cond c (nameOf (b .first) plan) (kindLine (b .first) policy)) (ap (λ (x : Bool). eqb (b .rule) 11 || x) (sym q) ∙ t)
 
-    pub assertion-lies : (b : Breach) (r : Part) → v ≡ Broken b → 16 < b .rule → r ≡ kindLine (b .first) policy → r ≡ located v plan policy
-    unfolding located
-    assertion-lies b r e h k =
-        k ∙ sym (ap (λ (x : Verdict). located x plan policy) e ∙ ap (λ (c : Bool). cond c (nameOf (b .first) plan) (kindLine (b .first) policy)) (lt-leb (b .rule) 16 h))
+      pub edge-lies : (eqb (b .rule) 11 || edge) ≡ true → r ≡ nameOf (b .first) plan → r ≡ located v plan policy
+      edge-lies t k = k ∙ sym (part-by true t)
+
+      pub assertion-lies : (eqb (b .rule) 11 || edge) ≡ false → r ≡ kindLine (b .first) policy → r ≡ located v plan policy
+      assertion-lies t k = k ∙ sym (part-by false t)
 
     pub unread-lies : (f : Fault) (r : Part) → v ≡ Unread f → r ≡ located (Unread f) plan policy → r ≡ located v plan policy
     unread-lies f r e k = k ∙ sym (ap (λ (x : Verdict). located x plan policy) e)

@@ -115,7 +115,7 @@ pub fn locate_verdict(plan: &[u8], policy: &[u8], verdict: Verdict) -> Part
             end: 0,
         },
         Verdict::Broken(b) => {
-            if b.rule <= 16 {
+            if (b.rule == 11) | rules::is_edge_rule(b.rule) {
                 return name_part(plan, b.first);
             }
             kind_part(policy, b.first)

@@ -32,7 +32,7 @@ use Rattle.population.specs.Arrays.{cells}
 use Rattle.population.specs.Lent.{settles, outcomeFrom, Same, unlessStep, Tried, answerFor}
 use Rattle.population.proofs.Fits.{length-processes, formed-plan, formed-template, formed-identifiers, formed-few, formed-lookup, looked-at}
 use Rattle.population.proofs.Lent.{numbered, untouched, tried-same, placed-at, found-none, found-some, found-serial, alone}
-use Rattle.stepping.specs.Stepping.{fitting, allFitting, refusalOf, skipping, newborn, newborns, Advanced, SteppedAt}
+use Rattle.stepping.specs.Stepping.{innocent, fitting, allFitting, refusalOf, skipping, newborn, newborns, Advanced, SteppedAt}
 use Rattle.stepping.proofs.Moves.{skipping-below, skipping-above}
 
 -- ---- the list of children and the code's two
@@ -43,12 +43,13 @@ length-listed (suc zero) y z h = refl
 length-listed (suc (suc n)) y z h = omega arith
 
 module _ (plan : Plan) (y z : ℕ) (t u : Template) (et : t ≡ at plan y) (eu : u ≡ at plan z) where
-  all-become : (label n : ℕ) → all (mayBecome plan label) (listFor n y z) ≡ allFitting (plan .identifiers) label n t u
-  unfolding all mayBecome allFitting fitting
-  all-become label zero = refl
-  all-become label (suc zero) = and-true _ ∙ ap (fitting (plan .identifiers) label) (sym et)
-  all-become label (suc (suc n)) =
-      ap₂ _&&_ (ap (fitting (plan .identifiers) label) (sym et)) (and-true _ ∙ ap (fitting (plan .identifiers) label) (sym eu))
+  all-become : (label X : ℕ) (a : Template) → a ≡ at plan X → (n : ℕ)
+      → all (mayBecome plan label X) (listFor n y z) ≡ allFitting (plan .identifiers) label a n t u
+  unfolding all mayBecome allFitting fitting innocent
+  all-become label X a ea zero = refl
+  all-become label X a ea (suc zero) = and-true _ ∙ ap₂ (fitting (plan .identifiers) label) (sym ea) (sym et)
+  all-become label X a ea (suc (suc n)) =
+      ap₂ _&&_ (ap₂ (fitting (plan .identifiers) label) (sym ea) (sym et)) (and-true _ ∙ ap₂ (fitting (plan .identifiers) label) (sym ea) (sym eu))
 
   spawn-newborns : (p : Process) (next n : ℕ) → spawn plan p next (listFor n y z) ≡ newborns (plan .identifiers) (p .tags) next n y t z u
   unfolding spawn newborns child newborn creates tag childTag
@@ -79,7 +80,7 @@ module _ (plan : Plan) (next live : ℕ) (c : Cells) (k branch : ℕ) (well : we
 
   module _ (t : Template) (et : t ≡ at plan (getD (c .templates) k 0)) (heirs : Successors) (eh : listed heirs ≡ children (t .form) branch) (few : heirs .count ≤ 2)
       (first second : Template) (e₁ : first ≡ at plan (heirs .first)) (e₂ : second ≡ at plan (heirs .second))
-      (q : ℕ) (eq : answerFor q ≡ refusalOf (plan .identifiers) next live (getD (c .labels) k 0) (t .form) branch (heirs .count) first second) where
+      (q : ℕ) (eq : answerFor q ≡ refusalOf (plan .identifiers) next live (getD (c .labels) k 0) t branch (heirs .count) first second) where
     abbrev templates : List ℕ
     templates = children (at plan (getD (c .templates) k 0) .form) branch
 
@@ -89,11 +90,11 @@ module _ (plan : Plan) (next live : ℕ) (c : Cells) (k branch : ℕ) (well : we
     answers : stepAnswer boxLimits (machineFrom plan next live c) (placed M c k) branch templates ≡ answerFor q
     unfolding stepAnswer machineFrom placed refusalOf
     answers =
-        ap (λ (ts : List ℕ). order (at plan (getD (c .templates) k 0) .form) (length (processesOf M live c)) (length ts) (all (mayBecome plan (getD (c .labels) k 0)) ts)) same-templates
-        ∙ ap (λ (t : Template). order (t .form) (length (processesOf M live c)) (length listedHeirs) (all (mayBecome plan (getD (c .labels) k 0)) listedHeirs)) (sym et)
+        ap (λ (ts : List ℕ). order (at plan (getD (c .templates) k 0) .form) (length (processesOf M live c)) (length ts) (all (mayBecome plan (getD (c .labels) k 0) (getD (c .templates) k 0)) ts)) same-templates
+        ∙ ap (λ (t : Template). order (t .form) (length (processesOf M live c)) (length listedHeirs) (all (mayBecome plan (getD (c .labels) k 0) (getD (c .templates) k 0)) listedHeirs)) (sym et)
         ∙ ap₂ (order (t .form) (length (processesOf M live c))) (length-listed (heirs .count) (heirs .first) (heirs .second) few)
-        (all-become plan (heirs .first) (heirs .second) first second e₁ e₂ (getD (c .labels) k 0) (heirs .count))
-        ∙ ap (λ (n : ℕ). order (t .form) n (heirs .count) (allFitting M (getD (c .labels) k 0) (heirs .count) first second)) (length-processes plan next live c)
+        (all-become plan (heirs .first) (heirs .second) first second e₁ e₂ (getD (c .labels) k 0) (getD (c .templates) k 0) t et (heirs .count))
+        ∙ ap (λ (n : ℕ). order (t .form) n (heirs .count) (allFitting M (getD (c .labels) k 0) t (heirs .count) first second)) (length-processes plan next live c)
         ∙ sym eq
       where
         listedHeirs : List ℕ
@@ -156,7 +157,7 @@ module _ (row : List ℕ) (next live : ℕ) (c : Cells) (k branch : ℕ) (h : k 
   module _ (t : Template) (looked : t ≡ templateAt row (getD (c .templates) k 0)) (heirs : Successors) (eh : listed heirs ≡ children (t .form) branch) (few : heirs .count ≤ 2)
       (ef : heirs .first ≡ getD (children (t .form) branch) 0 0) (es : heirs .second ≡ getD (children (t .form) branch) 1 0)
       (first second : Template) (l₁ : first ≡ templateAt row (heirs .first)) (l₂ : second ≡ templateAt row (heirs .second))
-      (q : ℕ) (eq : answerFor q ≡ refusalOf w next live (getD (c .labels) k 0) (t .form) branch (heirs .count) first second) where
+      (q : ℕ) (eq : answerFor q ≡ refusalOf w next live (getD (c .labels) k 0) t branch (heirs .count) first second) where
     module _ (well : wellFormed boxLimits (machineFrom (planFor row) next live c) ≡ true) where
       found : t ≡ at (planFor row) (getD (c .templates) k 0)
       found = looked-at row next live c well k h t looked
@@ -182,8 +183,8 @@ module _ (row : List ℕ) (next live : ℕ) (c : Cells) (k branch : ℕ) (h : k 
       M-is : planFor row .identifiers ≡ w
       M-is = formed-identifiers row next live c well ∙ sym ew
 
-      eq′ : answerFor q ≡ refusalOf (planFor row .identifiers) next live (getD (c .labels) k 0) (t .form) branch (heirs .count) first second
-      eq′ = eq ∙ ap (λ (M : ℕ). refusalOf M next live (getD (c .labels) k 0) (t .form) branch (heirs .count) first second) (sym M-is)
+      eq′ : answerFor q ≡ refusalOf (planFor row .identifiers) next live (getD (c .labels) k 0) t branch (heirs .count) first second
+      eq′ = eq ∙ ap (λ (M : ℕ). refusalOf M next live (getD (c .labels) k 0) t branch (heirs .count) first second) (sym M-is)
 
     pub place-refused : (r : Settled) → (q ≡ 0 → ⊥) → r ≡ settles (Refused q) next live → SteppedAt (planFor row) next live c k branch r c
     place-refused r n er =

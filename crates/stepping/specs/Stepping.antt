@@ -7,15 +7,12 @@ use mathlib.Core.Bool.{Bool, true, not, cond, _&&_}
 use mathlib.Core.List.{List, [], _∷_, _++_}
 use lib.Dec.{eqb, leb, ltb}
 use lib.ListN.{getD}
-use lib.Bits.{bitAnd, bitOr}
-use Rattle.lists.specs.Numbers.{every, tabulate}
-use Rattle.mask.specs.Mask.{without}
-use Rattle.plan.specs.declared.Form.{Form}
+use Rattle.lists.specs.Numbers.{every, all, tabulate}
 use Rattle.plan.specs.declared.Template.{Template}
 use Rattle.plan.specs.declared.Plan.{Plan}
 use mathlib.Core.Option.{some}
 use Rattle.plan.specs.declared.Successors.{Successors}
-use Rattle.rules.specs.Judge.{offends12, offends13, offends16}
+use Rattle.rules.specs.Judge.{EdgeRule, stepRules}
 use Rattle.machine.specs.declared.Answer.{Answer}
 use Rattle.machine.specs.declared.Answer.the-variants.{Done}
 use Rattle.machine.specs.Machine.{Process, boxLimits, wellFormed, refuseIf, branchFits, stepBy}
@@ -24,26 +21,26 @@ use Rattle.arrays.specs.Places.{childTag}
 use Rattle.population.specs.declared.Settled.{Settled}
 use Rattle.population.specs.Lent.{outcomeFrom, Same}
 
--- The mask of the identifiers that offend against rule 12, 13 or 16.
-unfoldable pub offending : ℕ → Template → ℕ
-offending label t = bitOr (without (t .lab) (bitOr label (t .pos))) (bitOr (without (without label (t .neg)) (t .lab)) (bitAnd (t .creates) label))
+-- Identifier i does nothing against the rules that a step asks, where a process at X of that label becomes one at Y.
+unfoldable pub innocent : ℕ → Template → Template → ℕ → Bool
+innocent label X Y i = all (λ (r : EdgeRule). not (r .offends label X Y i)) stepRules
 
--- None of M identifiers does: the machine's `mayBecome` at that template.
-unfoldable pub fitting : ℕ → ℕ → Template → Bool
-fitting M label t = every M (λ i. not (offends12 label t i) && (not (offends13 label t i) && not (offends16 label t i)))
+-- None of M identifiers does: the machine's `mayBecome` of those templates.
+unfoldable pub fitting : ℕ → ℕ → Template → Template → Bool
+fitting M label X Y = every M (innocent label X Y)
 
-unfoldable pub allFitting : ℕ → ℕ → ℕ → Template → Template → Bool
-allFitting M label zero t u = true
-allFitting M label (suc zero) t u = fitting M label t
-allFitting M label (suc (suc n)) t u = fitting M label t && fitting M label u
+unfoldable pub allFitting : ℕ → ℕ → Template → ℕ → Template → Template → Bool
+allFitting M label X zero t u = true
+allFitting M label X (suc zero) t u = fitting M label X t
+allFitting M label X (suc (suc n)) t u = fitting M label X t && fitting M label X u
 
--- 22 to 25, for count children.
-unfoldable pub refusalOf : ℕ → ℕ → ℕ → ℕ → Form → ℕ → ℕ → Template → Template → Answer
-refusalOf M next live label form branch count t u =
-    refuseIf (not (branchFits form branch)) 22
+-- 22 to 25, for count children of a process at X.
+unfoldable pub refusalOf : ℕ → ℕ → ℕ → ℕ → Template → ℕ → ℕ → Template → Template → Answer
+refusalOf M next live label X branch count t u =
+    refuseIf (not (branchFits (X .form) branch)) 22
     (refuseIf (eqb count 2 && not (leb (live + 1) 128)) 23
     (refuseIf (not (leb (next + count) 4294967295)) 24
-    (refuseIf (not (allFitting M label count t u)) 25
+    (refuseIf (not (allFitting M label X count t u)) 25
     Done)))
 
 -- The processes without the one at place k.

@@ -7,17 +7,19 @@ use plan::Template;
 use planrow::WORDS;
 use population::Settled;
 ghost use mathlib.Core.Path.{_≡_};
+ghost use mathlib.Core.Bool.{not};
 ghost use mathlib.Core.List.{[], _∷_, _++_};
 ghost use Prim.Native.Nat.{_<_, _≤_, _+_};
 ghost use lib.ListN.{getD};
 ghost use Rattle.lists.specs.Numbers.{tabulate};
+ghost use Rattle.mask.specs.Sets.{Marks};
 ghost use Rattle.plan.specs.Listed.{listed};
 ghost use Rattle.planrow.specs.Lookup.{planFor};
 ghost use Rattle.machine.specs.Machine.{branchFits, children, step};
 ghost use Rattle.machine.specs.State.{placed, processesOf};
 ghost use Rattle.population.specs.Arrays.{cells};
 ghost use Rattle.population.specs.Lent.{answerFor, Tried};
-ghost use Rattle.stepping.specs.Stepping.{offending, fitting, allFitting, refusalOf, skipping, newborn, Room, Advanced, SteppedAt};
+ghost use Rattle.stepping.specs.Stepping.{innocent, fitting, allFitting, refusalOf, skipping, newborn, Room, Advanced, SteppedAt};
 
 // Document 01, 22: "branch is not 0, or for `either` not 0 or 1".
 fn is_branch(form: Form, branch: u32) -> bool
@@ -59,29 +61,36 @@ fn children_of(form: Form, branch: u32) -> Successors
     }
 }
 
-// The identifiers that offend against rule 12, 13 or 16 where a process of that label becomes one at the template.
-fn offences(label: u32, t: Template) -> u32
-    ensures { λ r. ⌜ r ≡ offending label t ⌝ }
+// The identifiers that offend against a rule of stepRules where a process at x, of that label, becomes one at y.
+fn offences(label: u32, x: Template, y: Template) -> u32
+    ensures { λ r. ⌜ Marks r (λ i. not (innocent label x y i)) ⌝ }
 {
-    let missing = mask::difference(t.lab, label | t.pos);
-    let kept = mask::difference(mask::difference(label, t.neg), t.lab);
-    missing | (kept | (t.creates & label))
+    let m12 = offenders::offenders_12(label, x, y);
+    let m13 = offenders::offenders_13(label, x, y);
+    let m16 = offenders::offenders_16(label, x, y);
+    m12 | (m13 | m16)
 }
 
 // Document 01, 25, for one child: no identifier of the plan's offends.
-fn is_fitting(m: u32, label: u32, t: Template) -> bool
-    requires { ⌜ m ≤ 32 ⌝ }
-    ensures { λ r. ⌜ r ≡ fitting m label t ⌝ }
+fn is_fitting(m: u32, label: u32, x: Template, y: Template) -> bool
+    ensures { λ r. ⌜ r ≡ fitting m label x y ⌝ }
 {
-    m <= mask::lowest_item(offences(label, t))
+    m <= offenders::lowest_below(m, offences(label, x, y))
 }
 
 // The same for none, one or two.
-fn are_fitting(m: u32, label: u32, count: u8, first: Template, second: Template) -> bool
-    requires { ⌜ (m ≤ 32) × (count ≤ 2) ⌝ }
-    ensures { λ r. ⌜ r ≡ allFitting m label count first second ⌝ }
+fn are_fitting(
+    m: u32,
+    label: u32,
+    x: Template,
+    count: u8,
+    first: Template,
+    second: Template,
+) -> bool
+    ensures { λ r. ⌜ r ≡ allFitting m label x count first second ⌝ }
 {
-    ((count < 1) | is_fitting(m, label, first)) & ((count < 2) | is_fitting(m, label, second))
+    let one = (count < 1) | is_fitting(m, label, x, first);
+    one & ((count < 2) | is_fitting(m, label, x, second))
 }
 
 // The number of the first refusal from 22 to 25, and 0 where there is none.
@@ -90,15 +99,16 @@ fn refusal(
     next: u32,
     live: u32,
     label: u32,
-    form: Form,
+    x: Template,
     branch: u32,
     count: u8,
     first: Template,
     second: Template,
 ) -> u8
-    requires { ⌜ (m ≤ 32) × (count ≤ 2) ⌝ }
-    ensures { λ r. ⌜ answerFor r ≡ refusalOf m next live label form branch count first second ⌝ }
+    requires { ⌜ count ≤ 2 ⌝ }
+    ensures { λ r. ⌜ answerFor r ≡ refusalOf m next live label x branch count first second ⌝ }
 {
+    let form = x.form;
     if !is_branch(form, branch) {
         return population::NO_BRANCH;
     }
@@ -108,7 +118,7 @@ fn refusal(
     if 4294967295 - (count as u32) < next {
         return population::NO_SERIAL;
     }
-    if !are_fitting(m, label, count, first, second) {
+    if !are_fitting(m, label, x, count, first, second) {
         return population::BAD_LABEL;
     }
     0
@@ -322,7 +332,7 @@ fn step_at<'a>(
         next,
         live,
         labels[k],
-        form,
+        t,
         branch,
         heirs.count,
         first,

@@ -13,11 +13,17 @@ successors-of-requires c κs = search needs
 returns : tie.Need-returns
 returns c = search none-from
 
+template-at-requires-2 : tie.Need-template-at-requires-2
+template-at-requires-2 c κs = search needs
+
 check-edge-requires : tie.Need-check-edge-requires
 check-edge-requires c κs = search needs
 
 returns-2 : tie.Need-returns-2
 returns-2 c = search one-from
+
+template-at-requires-3 : tie.Need-template-at-requires-3
+template-at-requires-3 c κs = search needs
 
 check-edge-requires-2 : tie.Need-check-edge-requires-2
 check-edge-requires-2 c κs = search needs
@@ -35,8 +41,10 @@ check-edges-from-spec =
     template-at-requires
     successors-of-requires
     returns
+    template-at-requires-2
     check-edge-requires
     returns-2
+    template-at-requires-3
     check-edge-requires-2
     or-else-requires
     returns-3)

@@ -10,6 +10,9 @@ enum-told c = search needs
 enum-known-verdict : tie.Need-enum-known-verdict
 enum-known-verdict c = search needs
 
+is-edge-rule-requires : tie.Need-is-edge-rule-requires
+is-edge-rule-requires c κs = search needs
+
 name-part-requires : tie.Need-name-part-requires
 name-part-requires c κs = search needs
 
@@ -40,6 +43,7 @@ locate-verdict-spec =
     (tie.spec
     enum-told
     enum-known-verdict
+    is-edge-rule-requires
     name-part-requires
     returns
     kind-part-requires

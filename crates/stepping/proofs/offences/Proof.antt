@@ -1,23 +1,21 @@
--- The definition, mask by mask.
-use borrow.Author.Needs.{needs}
+-- The masks of the three rows together.
 use Rattle.stepping.proofs.Refusals.{offences-gathered}
+use borrow.Author.Needs.{needs}
 use Rattle.stepping.proofs.offences.Statement.{statement}
 use Rattle.stepping.proofs.offences.Tie as tie
 
-difference-requires : tie.Need-difference-requires
-difference-requires c κs = search needs
+offenders-12-requires : tie.Need-offenders-12-requires
+offenders-12-requires c κs = search needs
 
-difference-requires-2 : tie.Need-difference-requires-2
-difference-requires-2 c κs = search needs
+offenders-13-requires : tie.Need-offenders-13-requires
+offenders-13-requires c κs = search needs
 
-difference-requires-3 : tie.Need-difference-requires-3
-difference-requires-3 c κs = search needs
+offenders-16-requires : tie.Need-offenders-16-requires
+offenders-16-requires c κs = search needs
 
 returns : tie.Need-returns
-returns c =
-    let first = c .before .before .before in
-    offences-gathered _ _ _ _ _ (first .difference .ensures) (c .before .before .difference2 .ensures) (c .before .difference3 .ensures)
+returns c = search offences-gathered
 
 pub offences-spec : {M : Type 1} → statement M
 offences-spec =
-    tie.close (tie.spec difference-requires difference-requires-2 difference-requires-3 returns)
+    tie.close (tie.spec offenders-12-requires offenders-13-requires offenders-16-requires returns)

@@ -1,8 +1,8 @@
 -- What is left after the one mask and after the other is taken away.
-use Rattle.edges.proofs.Offenders.{less-less}
+use Rattle.offenders.proofs.Masks.{less-less}
 use borrow.Author.Needs.{needs}
-use Rattle.edges.proofs.offenders_13.Statement.{statement}
-use Rattle.edges.proofs.offenders_13.Tie as tie
+use Rattle.offenders.proofs.offenders_13.Statement.{statement}
+use Rattle.offenders.proofs.offenders_13.Tie as tie
 
 difference-requires : tie.Need-difference-requires
 difference-requires c κs = search needs
