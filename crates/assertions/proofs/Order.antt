@@ -22,10 +22,10 @@ use Rattle.route.proofs.Answers.{shares-laid, splits-laid}
 use Rattle.rules.specs.declared.Verdict.{Verdict}
 use Rattle.rules.specs.declared.Verdict.the-variants.{Accepted}
 use Rattle.rules.specs.Judge.{broken, firstBelow, serves, checkProt, checkAssertion, checkAssertions, wearable}
-use Rattle.rules.specs.Broken.{accepted, tested}
+use Rattle.rules.specs.Broken.{accepted}
 use Rattle.rules.proofs.Walk.{broken-accepted, accepted-is, below-none, below-more, below-leaves, below-alike}
 use Rattle.assertions.specs.declared.Labels.{Labels}
-use Rattle.assertions.specs.Lent.{keeps, wearables, labelsOf, joined, parted, servesBy, protBy}
+use Rattle.assertions.specs.Lent.{keeps, labelsOf, joined, parted, servesBy, protBy}
 use Rattle.assertions.proofs.Wearing.{and-again, wearables-are}
 
 -- ---- one assertion

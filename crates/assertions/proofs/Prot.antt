@@ -7,7 +7,7 @@ use mathlib.Core.Bool.{Bool, true, false, not, cond, _&&_, true≢false, false�
 use mathlib.Core.List.{List}
 use native.Mathlib.Nat.{lt-trans, le-trans}
 use native.Mathlib.Omega.{arith}
-use lib.Dec.{ltb, eqb}
+use lib.Dec.{ltb}
 use lib.Bits.{bitAnd, bitOr}
 use borrow.Author.Tests.{lt-ltb, le-ltb, ltb-true}
 use Rattle.lists.specs.Numbers.{lowest}
@@ -20,7 +20,6 @@ use Rattle.mask.proofs.Width.{has-below, has-past}
 use Rattle.plan.specs.declared.Assertion.{Assertion}
 use Rattle.route.specs.Search.{collect, splitsOver}
 use Rattle.route.specs.Layout.{madeBy, laidOut}
-use Rattle.rules.specs.declared.Verdict.{Verdict}
 use Rattle.rules.specs.declared.Verdict.the-variants.{Accepted}
 use Rattle.rules.specs.Judge.{broken, firstBelow}
 use Rattle.rules.specs.Broken.{tested}

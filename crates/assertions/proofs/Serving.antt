@@ -1,13 +1,13 @@
 -- Rule 17's test over what is lent, one law for each way out; the loop over the identifiers; and over the plan's own
 -- layout and labels it is the test of Judge.antt.
 use Prim.Native.Nat.{ℕ, _+_, _^_, _≤_, _<_, min}
-use mathlib.Core.Path.{_≡_, refl, sym, ap, ap₂, _∙_}
+use mathlib.Core.Path.{_≡_, sym, ap, ap₂, _∙_}
 use mathlib.Core.Bool.{Bool, true, false, not, _&&_, _||_}
 use mathlib.Core.List.{List}
 use native.Mathlib.Omega.{arith}
 use mir.Syntax.{w8}
 use mir.Val.{Fits}
-use Rattle.lists.specs.Numbers.{every, any}
+use Rattle.lists.specs.Numbers.{any}
 use Rattle.lists.proofs.Every.{any-none, any-more, any-hit, any-capped}
 use Rattle.mask.specs.Mask.{has}
 use Rattle.mask.proofs.Width.{has-past}

@@ -1,7 +1,7 @@
 -- An assertion's labels as the code gathers them, and the identifiers of a label that no template outside Declass may
 -- remove: the turns of the loop over the templates.
 use Prim.Native.Nat.{ℕ, _+_, _≤_, _<_, min}
-use mathlib.Core.Path.{_≡_, refl, sym, ap, ap₂, _∙_}
+use mathlib.Core.Path.{_≡_, refl, sym, ap, _∙_}
 use mathlib.Core.Bool.{Bool, true, false, not, cond, _&&_, _||_, or-true, or-false}
 use mathlib.Core.List.{map}
 use native.Mathlib.Omega.{arith}

@@ -4,11 +4,12 @@
 use Prim.Native.Nat.{ℕ}
 use mathlib.Core.Path.{_≡_, refl, sym, ap, _∙_}
 use mathlib.Core.Logic.{_⊎_, inl, inr}
+use mathlib.Core.Bool.{Bool}
 use mathlib.Core.List.{List, _∷_}
 use mathlib.Core.Option.{Option, none, some}
 use Rattle.plan.specs.declared.Plan.{Plan}
 use Rattle.plan.specs.Plan.{Successor, creates}
-use Rattle.route.specs.Route.{Holds, equals, ReachedLacking, Forked, SharedTag, SplitTag}
+use Rattle.route.specs.Route.{Holds, equals, Without, ReachedLacking, Forked, SharedTag, SplitTag}
 use Rattle.promise.specs.History.{Node, nearest}
 use Rattle.promise.proofs.Lineage.{maker, Lacking, Holding, Descent, Routed, lacking?, maker-skip, nearest-skip, nearest-maker, nearest-none, nearest-some, descent-route, young-route}
 use Rattle.promise.proofs.Separation.{Parting, Over}
@@ -16,6 +17,10 @@ use Rattle.promise.proofs.Separation.{Parting, Over}
 -- Both lineages have a nearest process at A, and it is the same.
 abbrev pub Kindred : ℕ → List Node → List Node → Type 0
 Kindred A lx ly = (s : ℕ) × (nearest (equals A) lx ≡ some s) × (nearest (equals A) ly ≡ some s)
+
+-- A lineage on which no template passes a test is a route without one.
+abbrev lacking-route : {plan : Plan} {X Z : ℕ} {part : List Node} (r : Routed plan X Z part) (test : ℕ → Bool) → Lacking test part → Without plan test X Z
+lacking-route r test h = record { list = r .list; route = r .route; lacks = r .lacks test h }
 
 module _ (plan : Plan) (n m : Node) (l k : List Node) where
   -- ---- where they part
@@ -31,17 +36,15 @@ module _ (plan : Plan) (n m : Node) (l k : List Node) where
     to-fork = descent-route plan 0 (a .fork) (a .rest) (a .root)
 
     -- The fork with its branches, and the routes to both processes.
-    abbrev forked : Forked plan (n .template) (m .template)
-    forked = record {
+    abbrev forked : (test : ℕ → Bool) → Lacking test (a .part-x) → Lacking test (a .part-y) → Forked plan test (n .template) (m .template)
+    forked test x y = record {
       L = a .fork .template;
       one = a .X;
       other = a .Y;
-      to-S = to-x .list;
-      to-K = to-y .list;
       reached = (to-fork .list, to-fork .route);
       branches = a .branches;
-      route-S = to-x .route;
-      route-K = to-y .route;
+      to-S = lacking-route to-x test x;
+      to-K = lacking-route to-y test y;
     }
 
     -- Equal tags of t: the plan shares the tag, or the two are kin.
@@ -51,12 +54,7 @@ module _ (plan : Plan) (n m : Node) (l k : List Node) where
       where
         shared : (Holds (equals A) (to-x .list) ⊎ Holds (equals A) (to-y .list)) ⊎ ReachedLacking plan A (a .fork .template)
             → SharedTag plan t (n .template) (m .template) A
-        shared c = inl (record {
-          fork = forked;
-          kept-S = to-x .lacks (creates plan t) (a .same (creates plan t) e .0);
-          kept-K = to-y .lacks (creates plan t) (a .same (creates plan t) e .1);
-          ancestor = c;
-        })
+        shared c = let same = a .same (creates plan t) e in inl (record { fork = forked (creates plan t) (same .0) (same .1); ancestor = c })
 
         pick : Lacking (equals A) (a .part-x) ⊎ Holding (equals A) (a .part-x) → Lacking (equals A) (a .part-y) ⊎ Holding (equals A) (a .part-y)
             → (o : Option ℕ) → nearest (equals A) (a .fork ∷ a .rest) ≡ o
@@ -64,7 +62,7 @@ module _ (plan : Plan) (n m : Node) (l k : List Node) where
         pick (inr h) j o q = inl (shared (inl (inl (to-x .holds (equals A) h))))
         pick (inl h) (inr j) o q = inl (shared (inl (inr (to-y .holds (equals A) j))))
         pick (inl h) (inl j) none q =
-            inl (shared (inr (to-fork .list, to-fork .route, to-fork .lacks (equals A) (nearest-none (equals A) (a .fork ∷ a .rest) q))))
+            inl (shared (inr (lacking-route to-fork (equals A) (nearest-none (equals A) (a .fork ∷ a .rest) q))))
         pick (inl h) (inl j) (some s) q =
             inr (
               s,
@@ -85,10 +83,8 @@ module _ (plan : Plan) (n m : Node) (l k : List Node) where
 
         split : Holds (creates plan t) (to-x .list) ⊎ Holds (creates plan t) (to-y .list) → SplitTag plan t (n .template) (m .template) A
         split c = record {
-          fork = forked;
+          fork = forked (equals A) (bare .0) (bare .1);
           under = (to-fork .list, to-fork .route, to-fork .holds (equals A) (nearest-some (equals A) (a .fork ∷ a .rest) (kin .0) common));
-          lacks-S = to-x .lacks (equals A) (bare .0);
-          lacks-K = to-y .lacks (equals A) (bare .1);
           created = c;
         }
 
@@ -122,14 +118,12 @@ module _ (plan : Plan) (n m : Node) (l k : List Node) where
         reached = (to-n .list, to-n .route);
         child = a .X;
         successor = edge;
-        to-K = down .list;
-        route-K = down .route;
-        kept-K = down .lacks (creates plan t) (a .same (creates plan t) e);
+        to-K = lacking-route down (creates plan t) (a .same (creates plan t) e);
         ancestor = c;
       })
 
       pick : Lacking (equals A) (a .part) ⊎ Holding (equals A) (a .part) → (o : Option ℕ) → nearest (equals A) (n ∷ l) ≡ o
           → SharedTag plan t (n .template) (m .template) A ⊎ Kindred A (n ∷ l) (m ∷ k)
       pick (inr h) o q = inl (shared (inl (down .holds (equals A) h)))
-      pick (inl h) none q = inl (shared (inr (to-n .list, to-n .route, to-n .lacks (equals A) (nearest-none (equals A) (n ∷ l) q))))
+      pick (inl h) none q = inl (shared (inr (lacking-route to-n (equals A) (nearest-none (equals A) (n ∷ l) q))))
       pick (inl h) (some s) q = inr (s, q, ap (nearest (equals A)) (a .split) ∙ (nearest-skip (equals A) (a .part) (n ∷ l) h ∙ q))

@@ -1,10 +1,9 @@
 -- Both answers as the code gathers them over what it is lent; and over the layout of a plan they are the tests of that
 -- plan, and so true exactly when their relations hold (Exact.antt).
-use Prim.Native.Nat.{ℕ, _<_}
-use mathlib.Core.Path.{_≡_, refl, sym, ap, ap₂, _∙_}
-use mathlib.Core.Bool.{Bool, true, _&&_, _||_}
+use Prim.Native.Nat.{ℕ}
+use mathlib.Core.Path.{_≡_, ap, ap₂, _∙_}
+use mathlib.Core.Bool.{Bool, _&&_, _||_}
 use lib.Bits.{bitAnd}
-use lib.ListN.{getD}
 use Rattle.lists.specs.Numbers.{any}
 use Rattle.lists.specs.Joins.{both, either}
 use Rattle.lists.proofs.Tabulate.{getD-tabulate}

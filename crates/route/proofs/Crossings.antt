@@ -15,7 +15,7 @@ use Rattle.plan.specs.declared.Plan.{Plan}
 use Rattle.plan.specs.Plan.{at, successors, Among}
 use Rattle.plan.specs.Range.{InRange}
 use Rattle.route.specs.declared.Forks.{Forks}
-use Rattle.route.specs.Route.{Route, Lacks, Holds, Reaches, Branches}
+use Rattle.route.specs.Route.{Holds, Without, Branches}
 use Rattle.route.specs.Search.{inMask, reach, isWay, ways, targets, arrives, detours, crosses, branchesCross, onBranches, forkCrosses, leads, anyIn}
 use Rattle.route.proofs.Routes.{range-low, Passes, by-way, at-way, ends-low}
 use Rattle.route.proofs.Searches.{reach-exactly, reach-bar}
@@ -69,10 +69,10 @@ anyIn-to test (Z ∷ rest) Y a e =
 
 module _ (plan : Plan) (range : InRange plan) (barred via : ℕ) (bar way : ℕ → Bool)
     (bars : (X : ℕ) → X < 64 → has X barred ≡ bar X) (wayed : (X : ℕ) → X < 64 → has X via ≡ way X) where
-  from-search : (X Y : ℕ) → X < 64 → has Y (reach plan (inMask barred) X) ≡ true → Reaches plan bar X Y
+  from-search : (X Y : ℕ) → X < 64 → has Y (reach plan (inMask barred) X) ≡ true → Without plan bar X Y
   from-search X Y l e = reach-exactly plan range bar X Y l .0 (sym (ap (has Y) (reach-bar plan (inMask barred) bar bars X)) ∙ e)
 
-  to-search : (X Y : ℕ) → X < 64 → Reaches plan bar X Y → has Y (reach plan (inMask barred) X) ≡ true
+  to-search : (X Y : ℕ) → X < 64 → Without plan bar X Y → has Y (reach plan (inMask barred) X) ≡ true
   to-search X Y l h = ap (has Y) (reach-bar plan (inMask barred) bar bars X) ∙ reach-exactly plan range bar X Y l .1 h
 
   -- A search that met a way to Z has a route to Z that passes one.
@@ -87,8 +87,8 @@ module _ (plan : Plan) (range : InRange plan) (barred via : ℕ) (bar way : ℕ 
   detours-to : (X Z : ℕ) → X < 64 → Passes plan bar way X Z → detours (reach plan (inMask barred) X) (record { place = Z; ways = ways 64 plan barred via Z }) ≡ true
   unfolding detours ways
   detours-to X Z l p =
-      let w = at-way plan bar way (p .1) (p .2) (p .3) in
-      let m = ends-low plan (range-low plan range) (w .2 .1) l in
+      let w = at-way plan bar way (p .0 .route) (p .0 .lacks) (p .1) in
+      let m = ends-low plan (range-low plan range) (w .2 .route) l in
       meet-to (reach plan (inMask barred) X) (ways 64 plan barred via Z) (w .0) m (to-search X (w .0) l (w .2))
       (collect-to 64 (isWay plan barred via Z) (w .0) (le-refl 64) m
       (both-of _ _ (wayed (w .0) m ∙ w .1) (to-search (w .0) Z m (w .3))))
@@ -96,13 +96,9 @@ module _ (plan : Plan) (range : InRange plan) (barred via : ℕ) (bar way : ℕ 
   module _ (S K : ℕ) where
     -- Routes from one branch to S and from the other to K; where not `direct`, one of them passes a way.
     pub record Crossing (one other : ℕ) (direct passing : Bool) : Type 0 where
-      pub to-S : List ℕ
-      pub to-K : List ℕ
-      pub route-S : Route plan one S to-S
-      pub route-K : Route plan other K to-K
-      pub lacks-S : Lacks bar to-S
-      pub lacks-K : Lacks bar to-K
-      pub led : ((passing ≡ true) × (Holds way to-S ⊎ Holds way to-K)) ⊎ (direct ≡ true)
+      pub to-S : Without plan bar one S
+      pub to-K : Without plan bar other K
+      pub led : ((passing ≡ true) × (Holds way (to-S .list) ⊎ Holds way (to-K .list))) ⊎ (direct ≡ true)
 
     crosses-from : (one other : ℕ) → one < 64 → other < 64 → (direct passing : Bool)
         → crosses (targets 64 plan barred via S K) direct passing (reach plan (inMask barred) one) (reach plan (inMask barred) other) ≡ true
@@ -112,14 +108,14 @@ module _ (plan : Plan) (range : InRange plan) (barred via : ℕ) (bar way : ℕ 
         (λ h. let p = both-right direct _ h in
         let g = from-search one S l (both-left _ _ p) in
         let r = from-search other K k (both-right (has S (reach plan (inMask barred) one)) _ p) in
-        record { to-S = g .0; to-K = r .0; route-S = g .1; route-K = r .1; lacks-S = g .2; lacks-K = r .2; led = inr (both-left _ _ h) })
+        record { to-S = g; to-K = r; led = inr (both-left _ _ h) })
         (λ h. let yes = both-left passing _ h in ⊎-elim
         (λ p. let g = detours-from one S l (both-left _ _ p) in
         let r = from-search other K k (both-right (detours (reach plan (inMask barred) one) _) _ p) in
-        record { to-S = g .0; to-K = r .0; route-S = g .1; route-K = r .1; lacks-S = g .2; lacks-K = r .2; led = inl (yes, inl (g .3)) })
+        record { to-S = g .0; to-K = r; led = inl (yes, inl (g .1)) })
         (λ p. let g = from-search one S l (both-left _ _ p) in
         let r = detours-from other K k (both-right (has S (reach plan (inMask barred) one)) _ p) in
-        record { to-S = g .0; to-K = r .0; route-S = g .1; route-K = r .1; lacks-S = g .2; lacks-K = r .2; led = inl (yes, inr (r .3)) })
+        record { to-S = g; to-K = r .0; led = inl (yes, inr (r .1)) })
         (either-cases _ _ (both-right passing _ h)))
         (either-cases _ _ e)
 
@@ -127,12 +123,12 @@ module _ (plan : Plan) (range : InRange plan) (barred via : ℕ) (bar way : ℕ 
         → crosses (targets 64 plan barred via S K) direct passing (reach plan (inMask barred) one) (reach plan (inMask barred) other) ≡ true
     unfolding crosses targets arrives
     crosses-to one other l k direct passing x =
-        let g = to-search one S l (x .to-S, x .route-S, x .lacks-S) in
-        let r = to-search other K k (x .to-K, x .route-K, x .lacks-K) in
+        let g = to-search one S l (x .to-S) in
+        let r = to-search other K k (x .to-K) in
         ⊎-elim
         (λ p. either-right _ _ (both-of _ _ (p .0) (⊎-elim
-        (λ h. either-left _ _ (both-of _ _ (detours-to one S l (x .to-S, x .route-S, x .lacks-S, h)) r))
-        (λ h. either-right _ _ (both-of _ _ g (detours-to other K k (x .to-K, x .route-K, x .lacks-K, h))))
+        (λ h. either-left _ _ (both-of _ _ (detours-to one S l (x .to-S, h)) r))
+        (λ h. either-right _ _ (both-of _ _ g (detours-to other K k (x .to-K, h))))
         (p .1))))
         (λ d. either-left _ _ (both-of _ _ d (both-of _ _ g r))) (x .led)
 
@@ -169,20 +165,18 @@ module _ (plan : Plan) (range : InRange plan) (barred via : ℕ) (bar way : ℕ 
 
     -- Routes from a successor to K.
     pub record Leading (direct : Bool) (Y : ℕ) : Type 0 where
-      pub to-K : List ℕ
-      pub route-K : Route plan Y K to-K
-      pub lacks-K : Lacks bar to-K
-      pub led : Holds way to-K ⊎ (direct ≡ true)
+      pub to-K : Without plan bar Y K
+      pub led : Holds way (to-K .list) ⊎ (direct ≡ true)
 
     pub leads-from : (direct : Bool) (Y : ℕ) → Y < 64 → leads plan barred (targets 64 plan barred via S K .sink) direct Y ≡ true → Leading direct Y
     unfolding leads targets arrives
     leads-from direct Y l e = ⊎-elim
-        (λ h. let r = from-search Y K l (both-right direct _ h) in record { to-K = r .0; route-K = r .1; lacks-K = r .2; led = inr (both-left _ _ h) })
-        (λ h. let r = detours-from Y K l h in record { to-K = r .0; route-K = r .1; lacks-K = r .2; led = inl (r .3) })
+        (λ h. let r = from-search Y K l (both-right direct _ h) in record { to-K = r; led = inr (both-left _ _ h) })
+        (λ h. let r = detours-from Y K l h in record { to-K = r .0; led = inl (r .1) })
         (either-cases _ _ e)
 
     pub leads-to : (direct : Bool) (Y : ℕ) → Y < 64 → Leading direct Y → leads plan barred (targets 64 plan barred via S K .sink) direct Y ≡ true
     unfolding leads targets arrives
     leads-to direct Y l x = ⊎-elim
-        (λ h. either-right _ _ (detours-to Y K l (x .to-K, x .route-K, x .lacks-K, h)))
-        (λ d. either-left _ _ (both-of _ _ d (to-search Y K l (x .to-K, x .route-K, x .lacks-K)))) (x .led)
+        (λ h. either-right _ _ (detours-to Y K l (x .to-K, h)))
+        (λ d. either-left _ _ (both-of _ _ d (to-search Y K l (x .to-K)))) (x .led)

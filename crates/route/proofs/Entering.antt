@@ -12,7 +12,7 @@ use Rattle.mask.specs.Sets.{plusBelow}
 use Rattle.mask.proofs.Items.{plus-below}
 use Rattle.plan.specs.declared.Form.{Form}
 use Rattle.plan.specs.declared.Plan.{Plan}
-use Rattle.plan.specs.Plan.{at, successors}
+use Rattle.plan.specs.Plan.{successors}
 use Rattle.route.specs.Search.{inMask, isOpen, enterAll, enter}
 use Rattle.route.specs.Layout.{laidOut}
 use Rattle.route.proofs.Searches.{left, open-low, enter-shut, enter-open, fewer, no-more}

@@ -27,10 +27,10 @@ module _ (plan : Plan) (range : InRange plan) where
   -- ---- from the root, and from A
 
   reached-from : (X : ℕ) → has X (reach plan (inMask 0) 0) ≡ true → Reached plan X
-  reached-from X e = let h = reach-exactly plan range (inMask 0) 0 X root-low .0 e in (h .0, h .1)
+  reached-from X e = let h = reach-exactly plan range (inMask 0) 0 X root-low .0 e in (h .list, h .route)
 
   reached-to : (X : ℕ) → Reached plan X → has X (reach plan (inMask 0) 0) ≡ true
-  reached-to X h = reach-exactly plan range (inMask 0) 0 X root-low .1 (h .0, h .1, lacks-all (inMask 0) has-none (h .0))
+  reached-to X h = reach-exactly plan range (inMask 0) 0 X root-low .1 (record { list = h .0; route = h .1; lacks = lacks-all (inMask 0) has-none (h .0) })
 
   reached-low : (X : ℕ) → Reached plan X → X < 64
   reached-low X h = ends-low plan (range-low plan range) (h .1) root-low
@@ -45,12 +45,12 @@ module _ (plan : Plan) (range : InRange plan) where
   holding-from A L e h =
       let low = reached-low A (reached-from A e) in
       let w = by-way plan (inMask 0) (equals A) 0 A L (reach-exactly plan range (inMask 0) 0 A root-low .0 e) (eq-eqb A A refl) (reach-exactly plan range (inMask 0) A L low .0 h) in
-      (w .0, w .1, w .3)
+      (w .0 .list, w .0 .route, w .1)
 
   holding-to : (A L : ℕ) → ReachedHolding plan A L → (has A (reach plan (inMask 0) 0) ≡ true) × (has L (reach plan (inMask 0) A) ≡ true)
   holding-to A L h =
       let w = at-way plan (inMask 0) (equals A) (h .1) (lacks-all (inMask 0) has-none (h .0)) (h .2) in
-      let low = ends-low plan (range-low plan range) (w .2 .1) root-low in
+      let low = ends-low plan (range-low plan range) (w .2 .route) root-low in
       subst (λ (X : ℕ). (has X (reach plan (inMask 0) 0) ≡ true) × (has L (reach plan (inMask 0) X) ≡ true)) (eqb-true (w .0) A (w .1))
       (reach-exactly plan range (inMask 0) 0 (w .0) root-low .1 (w .2), reach-exactly plan range (inMask 0) (w .0) L low .1 (w .3))
 
@@ -70,9 +70,7 @@ module _ (plan : Plan) (range : InRange plan) where
         let x = fork-from plan range C (only A) (creates plan t) (equals A) (collect-bar (creates plan t)) (only-bar A) S K _ (f .0) (f .2) in
         let y = x .crossing in
         inl (record {
-          fork = record { L = f .0; one = x .one; other = x .other; to-S = y .to-S; to-K = y .to-K; reached = reached-from (f .0) (x .stands); branches = x .branches; route-S = y .route-S; route-K = y .route-K };
-          kept-S = y .lacks-S;
-          kept-K = y .lacks-K;
+          fork = record { L = f .0; one = x .one; other = x .other; reached = reached-from (f .0) (x .stands); branches = x .branches; to-S = y .to-S; to-K = y .to-K };
           ancestor = ⊎-elim (λ p. inl (p .1)) (λ d. inr (lacking-from A (f .0) d)) (y .led);
         }))
         (λ h. let f = anyIn-from (leads plan C (targets 64 plan C (only A) S K .sink) (has S (reach plan (inMask (only A)) 0))) (successors (at plan S .form)) (both-right (has S (reach plan (inMask 0) 0)) _ h) in
@@ -82,8 +80,6 @@ module _ (plan : Plan) (range : InRange plan) where
           child = f .0;
           successor = f .1;
           to-K = x .to-K;
-          route-K = x .route-K;
-          kept-K = x .lacks-K;
           ancestor = ⊎-elim inl (λ d. inr (lacking-from A S d)) (x .led);
         }))
         (either-cases _ _ e)
@@ -102,17 +98,13 @@ module _ (plan : Plan) (range : InRange plan) where
           crossing = record {
             to-S = f .to-S;
             to-K = f .to-K;
-            route-S = f .route-S;
-            route-K = f .route-K;
-            lacks-S = x .kept-S;
-            lacks-K = x .kept-K;
             led = ⊎-elim (λ p. inl (reached-to (f .L) (f .reached), p)) (λ d. inr (lacking-to A (f .L) d)) (x .ancestor);
           };
         }))))
         (λ x. either-right _ _ (both-of _ _ (reached-to S (x .reached))
         (anyIn-to (leads plan C (targets 64 plan C (only A) S K .sink) (has S (reach plan (inMask (only A)) 0))) (successors (at plan S .form)) (x .child) (x .successor)
         (leads-to plan range C (only A) (creates plan t) (equals A) (collect-bar (creates plan t)) (only-bar A) S K _ (x .child) (range-low plan range S (x .child) (x .successor))
-        (record { to-K = x .to-K; route-K = x .route-K; lacks-K = x .kept-K; led = ⊎-elim inl (λ d. inr (lacking-to A S d)) (x .ancestor) })))))
+        (record { to-K = x .to-K; led = ⊎-elim inl (λ d. inr (lacking-to A S d)) (x .ancestor) })))))
         s
 
     -- ---- different tags: A barred, by way of C
@@ -128,10 +120,8 @@ module _ (plan : Plan) (range : InRange plan) where
         let y = x .crossing in
         let led = ⊎-elim (λ p. p) (λ d. absurd (passes-fails (has (f .0) 0) d (has-none (f .0)))) (y .led) in
         record {
-          fork = record { L = f .0; one = x .one; other = x .other; to-S = y .to-S; to-K = y .to-K; reached = reached-from (f .0) (x .stands); branches = x .branches; route-S = y .route-S; route-K = y .route-K };
+          fork = record { L = f .0; one = x .one; other = x .other; reached = reached-from (f .0) (x .stands); branches = x .branches; to-S = y .to-S; to-K = y .to-K };
           under = holding-from A (f .0) (both-left _ _ e) (led .0);
-          lacks-S = y .lacks-S;
-          lacks-K = y .lacks-K;
           created = led .1;
         }
 
@@ -147,7 +137,7 @@ module _ (plan : Plan) (range : InRange plan) where
           other = f .other;
           branches = f .branches;
           stands = reached-to (f .L) (f .reached);
-          crossing = record { to-S = f .to-S; to-K = f .to-K; route-S = f .route-S; route-K = f .route-K; lacks-S = x .lacks-S; lacks-K = x .lacks-K; led = inl (h .1, x .created) };
+          crossing = record { to-S = f .to-S; to-K = f .to-K; led = inl (h .1, x .created) };
         })))
 
 pub shares-exactly : (plan : Plan) → InRange plan → (t S K A : ℕ) → (sharesTag plan t S K A ≡ true) ↔ SharedTag plan t S K A

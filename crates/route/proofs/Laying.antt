@@ -54,15 +54,6 @@ module _ (plan : Plan) (first second creates : List ℕ) where
   }
 
   module _ (found x : ℕ) (s : Laying plan first second creates found x) where
-    pub lay-first : length first ≡ 64
-    lay-first = s .at-first .full
-
-    pub lay-second : length second ≡ 64
-    lay-second = s .at-second .full
-
-    pub lay-creates : length creates ≡ 64
-    lay-creates = s .at-creates .full
-
     pub lay-more : x < 64 → (v w r : ℕ) (b : Bool) → v ≡ firstOf (getD (plan .templates) x blank .form) → w ≡ secondOf (getD (plan .templates) x blank .form)
         → b ≡ isFork (getD (plan .templates) x blank .form) → r ≡ including found x b
         → Laying plan (set first x v) (set second x w) (set creates x (getD (plan .templates) x blank .creates)) r (x + 1)

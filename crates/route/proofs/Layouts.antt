@@ -21,7 +21,6 @@ use Rattle.plan.specs.declared.Plan.{Plan}
 use Rattle.plan.specs.Plan.{blank, at, successors}
 use Rattle.route.specs.declared.Target.{Target}
 use Rattle.route.specs.declared.Targets.{Targets}
-use Rattle.route.specs.declared.Forks.{Forks}
 use Rattle.route.specs.Search.{inMask, ifSo, collect, meet, enterAll, isOpen, enter, reach, ways, targets, arrives, detours, crosses, branchesCross, onBranches, forkCrosses, leads, anyIn}
 use Rattle.route.specs.Layout.{firstOf, secondOf, isFork, firsts, seconds, forked, laidTemplate, laidOut}
 use Rattle.route.proofs.Sets.{collect-bar}

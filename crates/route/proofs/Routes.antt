@@ -9,7 +9,7 @@ use native.Mathlib.Nat.{le-trans}
 use Rattle.plan.specs.declared.Plan.{Plan}
 use Rattle.plan.specs.Plan.{Successor}
 use Rattle.plan.specs.Range.{InRange}
-use Rattle.route.specs.Route.{Route, alone, onward, Lacks, Holds, Reaches}
+use Rattle.route.specs.Route.{Route, alone, onward, Lacks, Holds, Without}
 
 -- Every successor is a place of the plan's 64.
 abbrev pub Low : Plan → Type 0
@@ -33,11 +33,11 @@ module _ (plan : Plan) (test : ℕ → Bool) where
   starts-holding alone e = inl e
   starts-holding (onward s r) e = inl e
 
-  pub reaches-alone : (X : ℕ) → test X ≡ false → Reaches plan test X X
-  reaches-alone X e = (X ∷ [], alone, (e, tt))
+  pub without-alone : (X : ℕ) → test X ≡ false → Without plan test X X
+  without-alone X e = record { list = X ∷ []; route = alone; lacks = (e, tt) }
 
-  pub reaches-onward : (X Y Z : ℕ) → test X ≡ false → Successor plan X Y → Reaches plan test Y Z → Reaches plan test X Z
-  reaches-onward X Y Z e s h = (X ∷ h .0, onward s (h .1), (e, h .2))
+  pub without-onward : (X Y Z : ℕ) → test X ≡ false → Successor plan X Y → Without plan test Y Z → Without plan test X Z
+  without-onward X Y Z e s h = record { list = X ∷ h .list; route = onward s (h .route); lacks = (e, h .lacks) }
 
   -- What holds at the start and is handed to each successor that fails the test holds at the end.
   pub along : (P : ℕ → Type 0) → ((Y Z : ℕ) → P Y → Successor plan Y Z → test Z ≡ false → P Z)
@@ -53,22 +53,22 @@ ends-low plan low (onward s r) x = ends-low plan low r (low _ _ s)
 module _ (plan : Plan) (barred via : ℕ → Bool) where
   -- A route from X to Z without a barred template, on which some template passes the test via.
   abbrev pub Passes : ℕ → ℕ → Type 0
-  Passes X Z = (route : List ℕ) × Route plan X Z route × Lacks barred route × Holds via route
+  Passes X Z = (found : Without plan barred X Z) × Holds via (found .list)
 
   meeting : {X W Z : ℕ} {first second : List ℕ} → Route plan X W first → Lacks barred first → Route plan W Z second → Lacks barred second → via W ≡ true → Passes X Z
-  meeting {second = second} alone l r k e = (second, r, k, starts-holding plan via r e)
+  meeting {second = second} alone l r k e = (record { list = second; route = r; lacks = k }, starts-holding plan via r e)
   meeting (onward {X = X} s q) l r k e =
       let rest = meeting q (l .1) r k e in
-      (X ∷ rest .0, onward s (rest .1), (l .0, rest .2), inr (rest .3))
+      (record { list = X ∷ rest .0 .list; route = onward s (rest .0 .route); lacks = (l .0, rest .0 .lacks) }, inr (rest .1))
 
   -- Two routes that meet at a template that passes.
-  pub by-way : (X W Z : ℕ) → Reaches plan barred X W → via W ≡ true → Reaches plan barred W Z → Passes X Z
-  by-way X W Z g e h = meeting (g .1) (g .2) (h .1) (h .2) e
+  pub by-way : (X W Z : ℕ) → Without plan barred X W → via W ≡ true → Without plan barred W Z → Passes X Z
+  by-way X W Z g e h = meeting (g .route) (g .lacks) (h .route) (h .lacks) e
 
   -- And such a route is two that meet there.
   pub at-way : {X Z : ℕ} {route : List ℕ} → Route plan X Z route → Lacks barred route → Holds via route
-      → (W : ℕ) × (via W ≡ true) × Reaches plan barred X W × Reaches plan barred W Z
-  at-way (alone {X = X}) l t = ⊎-elim (λ e. (X, e, (X ∷ [], alone, l), (X ∷ [], alone, l))) (λ z. absurd z) t
+      → (W : ℕ) × (via W ≡ true) × Without plan barred X W × Without plan barred W Z
+  at-way (alone {X = X}) l t = ⊎-elim (λ e. (X, e, without-alone plan barred X (l .0), without-alone plan barred X (l .0))) (λ z. absurd z) t
   at-way (onward {X = X} {Y = Y} {rest = rest} s r) l t =
-      ⊎-elim (λ e. (X, e, (X ∷ [], alone, (l .0, tt)), (X ∷ rest, onward s r, l)))
-      (λ h. let w = at-way r (l .1) h in (w .0, w .1, reaches-onward plan barred X Y (w .0) (l .0) s (w .2), w .3)) t
+      ⊎-elim (λ e. (X, e, without-alone plan barred X (l .0), record { list = X ∷ rest; route = onward s r; lacks = l }))
+      (λ h. let w = at-way r (l .1) h in (w .0, w .1, without-onward plan barred X Y (w .0) (l .0) s (w .2), w .3)) t

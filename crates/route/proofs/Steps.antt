@@ -11,10 +11,10 @@ use native.Mathlib.Omega.{arith}
 use lib.Dec.{ltb, eqb}
 use lib.Bits.{bitAnd, and-le-l}
 use lib.ListN.{getD}
-use borrow.Author.Tests.{ltb-true, eqb-true, eq-eqb, not-true, not-false}
+use borrow.Author.Tests.{eqb-true, eq-eqb, not-true, not-false}
 use Rattle.lists.specs.Numbers.{any}
 use Rattle.lists.specs.Joins.{both, either}
-use Rattle.lists.proofs.Tests.{and-left, and-right, and-of, same-test, passes-fails, fails, bool?}
+use Rattle.lists.proofs.Tests.{and-of, same-test, passes-fails, fails, bool?}
 use Rattle.lists.proofs.Every.{any-at, any-acc}
 use Rattle.mask.specs.Mask.{has, plus}
 use Rattle.mask.specs.Sets.{plusBelow}

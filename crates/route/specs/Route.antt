@@ -26,16 +26,18 @@ Holds test (X ∷ rest) = (test X ≡ true) ⊎ Holds test rest
 abbrev pub equals : ℕ → ℕ → Bool
 equals A X = eqb X A
 
--- Some route leads from X to Z on which no template passes the test.
-abbrev pub Reaches : Plan → (ℕ → Bool) → ℕ → ℕ → Type 0
-Reaches plan test X Z = (route : List ℕ) × Route plan X Z route × Lacks test route
+-- A route from X to Z without a template that passes the test.
+pub record Without (plan : Plan) (test : ℕ → Bool) (X Z : ℕ) : Type 0 where
+  pub list : List ℕ
+  pub route : Route plan X Z list
+  pub lacks : Lacks test list
 
 -- "Template 0 is the root": some route from it leads to X, and one of those lacks A, or holds A, ends included.
 abbrev pub Reached : Plan → ℕ → Type 0
 Reached plan X = (route : List ℕ) × Route plan 0 X route
 
 abbrev pub ReachedLacking : Plan → ℕ → ℕ → Type 0
-ReachedLacking plan A X = Reaches plan (equals A) 0 X
+ReachedLacking plan A X = Without plan (equals A) 0 X
 
 abbrev pub ReachedHolding : Plan → ℕ → ℕ → Type 0
 ReachedHolding plan A X = (route : List ℕ) × Route plan 0 X route × Holds (equals A) route
@@ -48,26 +50,22 @@ Branches (Either Y Z) one other = ⊥
 Branches (Both Y Z) one other = ((one ≡ Y) × (other ≡ Z)) ⊎ ((one ≡ Z) × (other ≡ Y))
 
 -- "A fork is a `both` template reached by some route from the root": the fork L with its branches, and a route from
--- one branch to S and one from the other to K.
-pub record Forked (plan : Plan) (S K : ℕ) : Type 0 where
+-- one branch to S and one from the other to K, both without a template that passes the test.
+pub record Forked (plan : Plan) (test : ℕ → Bool) (S K : ℕ) : Type 0 where
   pub L : ℕ
   pub one : ℕ
   pub other : ℕ
-  pub to-S : List ℕ
-  pub to-K : List ℕ
   pub reached : Reached plan L
   pub branches : Branches (at plan L .form) one other
-  pub route-S : Route plan one S to-S
-  pub route-K : Route plan other K to-K
+  pub to-S : Without plan test one S
+  pub to-K : Without plan test other K
 
 module _ (plan : Plan) (t S K A : ℕ) where
   -- "Some fork L has a route from one branch to S and one from the other branch to K, both without C, and either one
   -- of these holds A or some route from the root to L, ends included, lacks A."
   pub record SharedAtFork : Type 0 where
-    pub fork : Forked plan S K
-    pub kept-S : Lacks (creates plan t) (fork .to-S)
-    pub kept-K : Lacks (creates plan t) (fork .to-K)
-    pub ancestor : (Holds (equals A) (fork .to-S) ⊎ Holds (equals A) (fork .to-K)) ⊎ ReachedLacking plan A (fork .L)
+    pub fork : Forked plan (creates plan t) S K
+    pub ancestor : (Holds (equals A) (fork .to-S .list) ⊎ Holds (equals A) (fork .to-K .list)) ⊎ ReachedLacking plan A (fork .L)
 
   -- "S is reached from the root, a route leads from a successor of S to K without C, and either it holds A or some
   -- route from the root to S, ends included, lacks A."
@@ -75,10 +73,8 @@ module _ (plan : Plan) (t S K A : ℕ) where
     pub reached : Reached plan S
     pub child : ℕ
     pub successor : Successor plan S child
-    pub to-K : List ℕ
-    pub route-K : Route plan child K to-K
-    pub kept-K : Lacks (creates plan t) to-K
-    pub ancestor : Holds (equals A) to-K ⊎ ReachedLacking plan A S
+    pub to-K : Without plan (creates plan t) child K
+    pub ancestor : Holds (equals A) (to-K .list) ⊎ ReachedLacking plan A S
 
   -- Document 01's Joined (t, S, K, A).
   abbrev pub SharedTag : Type 0
@@ -87,8 +83,6 @@ module _ (plan : Plan) (t S K A : ℕ) where
   -- Document 01's Parted (t, S, K, A): "some fork L with A on a route from the root to L, ends included, has a route
   -- from one branch to S and one from the other to K, both without A, and C is on one of them."
   pub record SplitTag : Type 0 where
-    pub fork : Forked plan S K
+    pub fork : Forked plan (equals A) S K
     pub under : ReachedHolding plan A (fork .L)
-    pub lacks-S : Lacks (equals A) (fork .to-S)
-    pub lacks-K : Lacks (equals A) (fork .to-K)
-    pub created : Holds (creates plan t) (fork .to-S) ⊎ Holds (creates plan t) (fork .to-K)
+    pub created : Holds (creates plan t) (fork .to-S .list) ⊎ Holds (creates plan t) (fork .to-K .list)

@@ -1,7 +1,7 @@
 -- `route::lay_templates`: all is laid out below x. The measure is what is left of 64.
 use Prim.Native.Nat.{_-_}
 use native.Mathlib.Omega.{arith}
-use Rattle.route.proofs.Laying.{Laying, lay-start, lay-first, lay-second, lay-creates, lay-more, lay-end}
+use Rattle.route.proofs.Laying.{Laying, lay-start, lay-more, lay-end}
 use borrow.Author.Needs.{needs}
 use Rattle.route.proofs.lay_templates.Statement.{statement}
 use Rattle.route.proofs.lay_templates.Tie as tie
