@@ -2,7 +2,7 @@
 use Prim.Native.Nat.{ℕ, zero, suc, _+_, _≤_, _<_}
 use mathlib.Core.Path.{_≡_, refl, sym, ap, ap₂, subst, _∙_}
 use mathlib.Core.Bool.{Bool, true, false}
-use mathlib.Core.List.{List, [], _∷_, map}
+use mathlib.Core.List.{List, map}
 use native.Mathlib.Omega.{arith}
 use mir.Syntax.{w8}
 use mir.Val.{Fits}
@@ -18,43 +18,43 @@ use Rattle.rules.specs.declared.Verdict.the-variants.{Accepted}
 use Rattle.rules.specs.Judge.{orElse, firstBelow, firstIn, checkEdge, checkEdges}
 use Rattle.rules.specs.Broken.{accepted}
 use Rattle.rules.proofs.Walk.{accepted-is, below-none, below-more, below-leaves, below-past}
-use Rattle.edges.specs.Wide.{placed, edgeOf}
+use Rattle.edges.specs.Wide.{firstOf, edgesOf, placed}
 use Rattle.edges.proofs.Offenders.{or-last, edge-checked}
 
-module _ (plan : Plan) (X : ℕ) (a : Template) (k : a ≡ at plan X) (s : Successors) (e : listed s ≡ successors (a .form)) where
-  abbrev from : Verdict
-  from = firstIn (successors (at plan X .form)) (checkEdge plan X)
+-- None, one or two, as the code meets them: x and y are the answers for the first and for the second.
+module _ (n : ℕ) (v w : Verdict) where
+  pub of-none : n ≡ 0 → Accepted ≡ firstOf n v w
+  unfolding firstOf
+  of-none h = sym (ap (λ (k : ℕ). firstOf k v w) h)
 
-  -- The walk over the successors that the code has.
-  over : (n : ℕ) → s .count ≡ n → firstIn (listFor n (s .first) (s .second)) (checkEdge plan X) ≡ from
-  over n h =
-      ap (λ (r : List ℕ). firstIn r (checkEdge plan X))
-      (sym (ap (λ (n : ℕ). listFor n (s .first) (s .second)) h) ∙ e ∙ ap (λ (x : Template). successors (x .form)) k)
+  module _ (x : Verdict) (e : x ≡ v) where
+    pub of-one : n ≡ 1 → x ≡ firstOf n v w
+    unfolding firstOf
+    of-one h = e ∙ sym (ap (λ (k : ℕ). firstOf k v w) h)
 
-  pub none-from : s .count ≡ 0 → Accepted ≡ firstIn (successors (at plan X .form)) (checkEdge plan X)
-  unfolding firstIn
-  none-from h = over 0 h
+    pub of-two : (n ≡ 0 → ⊥) → (n ≡ 1 → ⊥) → (y r : Verdict) → y ≡ w → r ≡ orElse x y → r ≡ firstOf n v w
+    unfolding firstOf
+    of-two h l y r d o = o ∙ ap₂ orElse e d ∙ two n h l
+      where
+        two : (n : ℕ) → (n ≡ 0 → ⊥) → (n ≡ 1 → ⊥) → orElse v w ≡ firstOf n v w
+        two zero h l = absurd (h refl)
+        two (suc zero) h l = absurd (l refl)
+        two (suc (suc n)) h l = refl
 
-  module _ (b : Template) (there : b ≡ at plan (s .first)) (v : Verdict) (q : v ≡ edgeOf (plan .identifiers) a b X (s .first)) where
-    first : v ≡ checkEdge plan X (s .first)
-    first = edge-checked plan X (s .first) a b v k there q
-
-    pub one-from : s .count ≡ 1 → v ≡ firstIn (successors (at plan X .form)) (checkEdge plan X)
-    unfolding firstIn
-    one-from h = first ∙ sym (or-last (checkEdge plan X (s .first))) ∙ over 1 h
-
-    two : (n : ℕ) → (n ≡ 0 → ⊥) → (n ≡ 1 → ⊥) → listFor n (s .first) (s .second) ≡ s .first ∷ s .second ∷ []
-    two zero h l = absurd (h refl)
-    two (suc zero) h l = absurd (l refl)
-    two (suc (suc n)) h l = refl
-
-    pub two-from : (s .count ≡ 0 → ⊥) → (s .count ≡ 1 → ⊥) → (c : Template) → c ≡ at plan (s .second) → (w r : Verdict) → r ≡ orElse v w
-        → w ≡ edgeOf (plan .identifiers) a c X (s .second) → r ≡ firstIn (successors (at plan X .form)) (checkEdge plan X)
-    unfolding firstIn
-    two-from h l c here w r o d =
-        o ∙ ap₂ orElse first (edge-checked plan X (s .second) a c w k here d ∙ sym (or-last (checkEdge plan X (s .second))))
-        ∙ ap (λ (r : List ℕ). firstIn r (checkEdge plan X)) (sym (two (s .count) h l))
-        ∙ over (s .count) refl
+-- The walk over the successors that the code has.
+pub edges-of : (plan : Plan) (X : ℕ) (a : Template) (s : Successors) (b c : Template) → a ≡ at plan X
+    → listed s ≡ successors (a .form) → b ≡ at plan (s .first) → c ≡ at plan (s .second)
+    → edgesOf (plan .identifiers) X a s b c ≡ firstIn (successors (at plan X .form)) (checkEdge plan X)
+unfolding edgesOf firstOf firstIn
+edges-of plan X a s b c k e p q =
+    ap₂ (firstOf (s .count)) (edge-checked plan X (s .first) a b _ k p refl) (edge-checked plan X (s .second) a c _ k q refl)
+    ∙ walk (s .count) (s .first) (s .second)
+    ∙ ap (λ (l : List ℕ). firstIn l (checkEdge plan X)) (e ∙ ap (λ (t : Template). successors (t .form)) k)
+  where
+    walk : (n Y Z : ℕ) → firstOf n (checkEdge plan X Y) (checkEdge plan X Z) ≡ firstIn (listFor n Y Z) (checkEdge plan X)
+    walk zero Y Z = refl
+    walk (suc zero) Y Z = sym (or-last (checkEdge plan X Y))
+    walk (suc (suc n)) Y Z = ap (orElse (checkEdge plan X Y)) (sym (or-last (checkEdge plan X Z)))
 
 -- ---- all templates
 
@@ -87,10 +87,16 @@ module _ (plan : Plan) where
     pub edges-room : x < n → Fits w8 (x + 1)
     edges-room h = let s = p .whole in omega arith
 
-    module _ (l : x < n) (v : Verdict) (e : v ≡ each x) (a : Bool) (t : a ≡ accepted v) where
-      pub edges-hit : a ≡ false → v ≡ checkEdges plan
-      unfolding checkEdges
-      edges-hit f = let s = p .whole in below-leaves (plan .count) each x v (omega arith) (p .so-far) e a t f
+    -- a is template x, s its successors, b and c the templates there; o is whether v, the answer for them, is accepted.
+    module _ (l : x < n) (a : Template) (k : a ≡ at plan x) (s : Successors) (g : listed s ≡ successors (a .form))
+        (b c : Template) (p₁ : b ≡ at plan (s .first)) (p₂ : c ≡ at plan (s .second))
+        (v : Verdict) (q : v ≡ edgesOf (plan .identifiers) x a s b c) (o : Bool) (t : o ≡ accepted v) where
+      e : v ≡ each x
+      e = q ∙ edges-of plan x a s b c k g p₁ p₂
 
-      pub edges-more : a ≡ true → Passed plan n (x + 1)
+      pub edges-hit : o ≡ false → v ≡ checkEdges plan
+      unfolding checkEdges
+      edges-hit f = let h = p .whole in below-leaves (plan .count) each x v (omega arith) (p .so-far) e o t f
+
+      pub edges-more : o ≡ true → Passed plan n (x + 1)
       edges-more f = record { whole = p .whole; below = omega arith; so-far = below-more x each (p .so-far) (sym e ∙ accepted-is v (sym t ∙ f)) }

@@ -1,6 +1,7 @@
 // Rules 11 to 16 over a plan. A count past the 64 places or an identifier past the 32 items of a mask is met as the
 // definitions meet it: blank templates and empty masks break nothing.
 use plan::Plan;
+use plan::Successors;
 use plan::Template;
 use rules::Breach;
 use rules::Verdict;
@@ -9,8 +10,8 @@ ghost use lib.Dec.{ltb};
 ghost use Rattle.mask.specs.Mask.{has};
 ghost use Rattle.mask.specs.Sets.{Marks};
 ghost use Rattle.plan.specs.Plan.{at, successors};
-ghost use Rattle.rules.specs.Judge.{orElse, firstIn, lowestOffender, nextCreator, check11, checkEdge, checkEdges};
-ghost use Rattle.edges.specs.Wide.{edgeOf, creatorFrom};
+ghost use Rattle.rules.specs.Judge.{orElse, lowestOffender, nextCreator, check11, checkEdges};
+ghost use Rattle.edges.specs.Wide.{edgeOf, edgesOf, creatorFrom};
 
 // What the earlier rules gave, or else the rule broken at the lowest item of m below the limit, where there is one.
 fn check_rule(earlier: Verdict, limit: u32, m: u32, rule: u8, x: u8, y: u8) -> Verdict
@@ -41,34 +42,40 @@ fn check_edge(limit: u32, a: Template, b: Template, x: u8, y: u8) -> Verdict
     check_rule(v, limit, offenders::offenders_16(a.lab, a, b), 16, x, y)
 }
 
-// The edges from x, in form order.
-fn check_edges_from(plan: Plan, x: u8) -> Verdict
-    ensures { λ r. ⌜ r ≡ firstIn (successors (at plan x .form)) (checkEdge plan x) ⌝ }
+// The edges from template x, which is a, in form order: to its successors, of which the first is b and the second c.
+fn check_edges_from(
+    limit: u32,
+    x: u8,
+    a: Template,
+    next: Successors,
+    b: Template,
+    c: Template,
+) -> Verdict
+    ensures { λ r. ⌜ r ≡ edgesOf limit x a next b c ⌝ }
 {
-    let limit = plan.identifiers;
-    let a = plan::template_at(plan, x);
-    let form = a.form;
-    let next = plan::successors_of(form);
     if next.count == 0 {
         return Verdict::Accepted;
     }
-    let b = plan::template_at(plan, next.first);
     let v = check_edge(limit, a, b, x, next.first);
     if next.count == 1 {
         return v;
     }
-    let c = plan::template_at(plan, next.second);
     rules::or_else(v, check_edge(limit, a, c, x, next.second))
 }
 
-// X rising.
+// X rising. The templates are looked up here: handed on, the plan would be copied at each.
 pub fn check_edges(plan: Plan) -> Verdict
     ensures { λ r. ⌜ r ≡ checkEdges plan ⌝ }
 {
     let n = plan::capped(plan.count, 64);
     let mut x: u8 = 0;
     while x < n {
-        let v = check_edges_from(plan, x);
+        let a = plan::template_at(plan, x);
+        let form = a.form;
+        let next = plan::successors_of(form);
+        let b = plan::template_at(plan, next.first);
+        let c = plan::template_at(plan, next.second);
+        let v = check_edges_from(plan.identifiers, x, a, next, b, c);
         if !rules::is_accepted(v) {
             return v;
         }

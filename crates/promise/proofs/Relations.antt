@@ -9,7 +9,7 @@ use mathlib.Core.List.{List, _∷_}
 use mathlib.Core.Option.{Option, none, some}
 use Rattle.plan.specs.declared.Plan.{Plan}
 use Rattle.plan.specs.Plan.{Successor, creates}
-use Rattle.route.specs.Route.{Holds, equals, Without, ReachedLacking, Forked, SharedTag, SplitTag}
+use Rattle.route.specs.Route.{Holds, equals, RouteLacking, ReachedLacking, Forked, SharedTag, SplitTag}
 use Rattle.promise.specs.History.{Node, nearest}
 use Rattle.promise.proofs.Lineage.{maker, Lacking, Holding, Descent, Routed, lacking?, maker-skip, nearest-skip, nearest-maker, nearest-none, nearest-some, descent-route, young-route}
 use Rattle.promise.proofs.Separation.{Parting, Over}
@@ -19,7 +19,7 @@ abbrev pub Kindred : ℕ → List Node → List Node → Type 0
 Kindred A lx ly = (s : ℕ) × (nearest (equals A) lx ≡ some s) × (nearest (equals A) ly ≡ some s)
 
 -- A lineage on which no template passes a test is a route without one.
-abbrev lacking-route : {plan : Plan} {X Z : ℕ} {part : List Node} (r : Routed plan X Z part) (test : ℕ → Bool) → Lacking test part → Without plan test X Z
+abbrev lacking-route : {plan : Plan} {X Z : ℕ} {part : List Node} (r : Routed plan X Z part) (test : ℕ → Bool) → Lacking test part → RouteLacking plan test X Z
 lacking-route r test h = record { list = r .list; route = r .route; lacks = r .lacks test h }
 
 module _ (plan : Plan) (n m : Node) (l k : List Node) where

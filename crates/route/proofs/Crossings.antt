@@ -15,7 +15,7 @@ use Rattle.plan.specs.declared.Plan.{Plan}
 use Rattle.plan.specs.Plan.{at, successors, Among}
 use Rattle.plan.specs.Range.{InRange}
 use Rattle.route.specs.declared.Forks.{Forks}
-use Rattle.route.specs.Route.{Holds, Without, Branches}
+use Rattle.route.specs.Route.{Holds, RouteLacking, Branches}
 use Rattle.route.specs.Search.{inMask, reach, isWay, ways, targets, arrives, detours, crosses, branchesCross, onBranches, forkCrosses, leads, anyIn}
 use Rattle.route.proofs.Routes.{range-low, Passes, by-way, at-way, ends-low}
 use Rattle.route.proofs.Searches.{reach-exactly, reach-bar}
@@ -69,10 +69,10 @@ anyIn-to test (Z ∷ rest) Y a e =
 
 module _ (plan : Plan) (range : InRange plan) (barred via : ℕ) (bar way : ℕ → Bool)
     (bars : (X : ℕ) → X < 64 → has X barred ≡ bar X) (wayed : (X : ℕ) → X < 64 → has X via ≡ way X) where
-  from-search : (X Y : ℕ) → X < 64 → has Y (reach plan (inMask barred) X) ≡ true → Without plan bar X Y
+  from-search : (X Y : ℕ) → X < 64 → has Y (reach plan (inMask barred) X) ≡ true → RouteLacking plan bar X Y
   from-search X Y l e = reach-exactly plan range bar X Y l .0 (sym (ap (has Y) (reach-bar plan (inMask barred) bar bars X)) ∙ e)
 
-  to-search : (X Y : ℕ) → X < 64 → Without plan bar X Y → has Y (reach plan (inMask barred) X) ≡ true
+  to-search : (X Y : ℕ) → X < 64 → RouteLacking plan bar X Y → has Y (reach plan (inMask barred) X) ≡ true
   to-search X Y l h = ap (has Y) (reach-bar plan (inMask barred) bar bars X) ∙ reach-exactly plan range bar X Y l .1 h
 
   -- A search that met a way to Z has a route to Z that passes one.
@@ -96,8 +96,8 @@ module _ (plan : Plan) (range : InRange plan) (barred via : ℕ) (bar way : ℕ 
   module _ (S K : ℕ) where
     -- Routes from one branch to S and from the other to K; where not `direct`, one of them passes a way.
     pub record Crossing (one other : ℕ) (direct passing : Bool) : Type 0 where
-      pub to-S : Without plan bar one S
-      pub to-K : Without plan bar other K
+      pub to-S : RouteLacking plan bar one S
+      pub to-K : RouteLacking plan bar other K
       pub led : ((passing ≡ true) × (Holds way (to-S .list) ⊎ Holds way (to-K .list))) ⊎ (direct ≡ true)
 
     crosses-from : (one other : ℕ) → one < 64 → other < 64 → (direct passing : Bool)
@@ -165,7 +165,7 @@ module _ (plan : Plan) (range : InRange plan) (barred via : ℕ) (bar way : ℕ 
 
     -- Routes from a successor to K.
     pub record Leading (direct : Bool) (Y : ℕ) : Type 0 where
-      pub to-K : Without plan bar Y K
+      pub to-K : RouteLacking plan bar Y K
       pub led : Holds way (to-K .list) ⊎ (direct ≡ true)
 
     pub leads-from : (direct : Bool) (Y : ℕ) → Y < 64 → leads plan barred (targets 64 plan barred via S K .sink) direct Y ≡ true → Leading direct Y

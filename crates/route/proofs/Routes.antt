@@ -9,7 +9,7 @@ use native.Mathlib.Nat.{le-trans}
 use Rattle.plan.specs.declared.Plan.{Plan}
 use Rattle.plan.specs.Plan.{Successor}
 use Rattle.plan.specs.Range.{InRange}
-use Rattle.route.specs.Route.{Route, alone, onward, Lacks, Holds, Without}
+use Rattle.route.specs.Route.{Route, alone, onward, Lacks, Holds, RouteLacking}
 
 -- Every successor is a place of the plan's 64.
 abbrev pub Low : Plan → Type 0
@@ -33,10 +33,10 @@ module _ (plan : Plan) (test : ℕ → Bool) where
   starts-holding alone e = inl e
   starts-holding (onward s r) e = inl e
 
-  pub without-alone : (X : ℕ) → test X ≡ false → Without plan test X X
+  pub without-alone : (X : ℕ) → test X ≡ false → RouteLacking plan test X X
   without-alone X e = record { list = X ∷ []; route = alone; lacks = (e, tt) }
 
-  pub without-onward : (X Y Z : ℕ) → test X ≡ false → Successor plan X Y → Without plan test Y Z → Without plan test X Z
+  pub without-onward : (X Y Z : ℕ) → test X ≡ false → Successor plan X Y → RouteLacking plan test Y Z → RouteLacking plan test X Z
   without-onward X Y Z e s h = record { list = X ∷ h .list; route = onward s (h .route); lacks = (e, h .lacks) }
 
   -- What holds at the start and is handed to each successor that fails the test holds at the end.
@@ -53,7 +53,7 @@ ends-low plan low (onward s r) x = ends-low plan low r (low _ _ s)
 module _ (plan : Plan) (barred via : ℕ → Bool) where
   -- A route from X to Z without a barred template, on which some template passes the test via.
   abbrev pub Passes : ℕ → ℕ → Type 0
-  Passes X Z = (found : Without plan barred X Z) × Holds via (found .list)
+  Passes X Z = (found : RouteLacking plan barred X Z) × Holds via (found .list)
 
   meeting : {X W Z : ℕ} {first second : List ℕ} → Route plan X W first → Lacks barred first → Route plan W Z second → Lacks barred second → via W ≡ true → Passes X Z
   meeting {second = second} alone l r k e = (record { list = second; route = r; lacks = k }, starts-holding plan via r e)
@@ -62,12 +62,12 @@ module _ (plan : Plan) (barred via : ℕ → Bool) where
       (record { list = X ∷ rest .0 .list; route = onward s (rest .0 .route); lacks = (l .0, rest .0 .lacks) }, inr (rest .1))
 
   -- Two routes that meet at a template that passes.
-  pub by-way : (X W Z : ℕ) → Without plan barred X W → via W ≡ true → Without plan barred W Z → Passes X Z
+  pub by-way : (X W Z : ℕ) → RouteLacking plan barred X W → via W ≡ true → RouteLacking plan barred W Z → Passes X Z
   by-way X W Z g e h = meeting (g .route) (g .lacks) (h .route) (h .lacks) e
 
   -- And such a route is two that meet there.
   pub at-way : {X Z : ℕ} {route : List ℕ} → Route plan X Z route → Lacks barred route → Holds via route
-      → (W : ℕ) × (via W ≡ true) × Without plan barred X W × Without plan barred W Z
+      → (W : ℕ) × (via W ≡ true) × RouteLacking plan barred X W × RouteLacking plan barred W Z
   at-way (alone {X = X}) l t = ⊎-elim (λ e. (X, e, without-alone plan barred X (l .0), without-alone plan barred X (l .0))) (λ z. absurd z) t
   at-way (onward {X = X} {Y = Y} {rest = rest} s r) l t =
       ⊎-elim (λ e. (X, e, without-alone plan barred X (l .0), record { list = X ∷ rest; route = onward s r; lacks = l }))

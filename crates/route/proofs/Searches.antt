@@ -18,7 +18,7 @@ use Rattle.mask.proofs.Size.{size-le, size-within, size-plus}
 use Rattle.plan.specs.declared.Plan.{Plan}
 use Rattle.plan.specs.Plan.{at, successors, Among, Successor}
 use Rattle.plan.specs.Range.{InRange}
-use Rattle.route.specs.Route.{Without}
+use Rattle.route.specs.Route.{RouteLacking}
 use Rattle.route.specs.Search.{ifSo, enterAll, isOpen, enter, reach}
 use Rattle.route.proofs.Routes.{Low, range-low, starts-lacking, without-alone, without-onward, along}
 
@@ -89,13 +89,13 @@ module _ (plan : Plan) (barred : ℕ → Bool) where
 
   record Entered (seen after X : ℕ) : Type 0 where
     grows : Grows seen after
-    sound : (Y : ℕ) → has Y after ≡ true → (has Y seen ≡ true) ⊎ Without plan barred X Y
+    sound : (Y : ℕ) → has Y after ≡ true → (has Y seen ≡ true) ⊎ RouteLacking plan barred X Y
     closed : (Y : ℕ) → has Y after ≡ true → (has Y seen ≡ true) ⊎ Closed after Y
     start : (barred X ≡ true) ⊎ (has X after ≡ true)
 
   record AllEntered (seen after : ℕ) (list : List ℕ) : Type 0 where
     grows : Grows seen after
-    sound : (Y : ℕ) → has Y after ≡ true → (has Y seen ≡ true) ⊎ ((W : ℕ) × Among W list × Without plan barred W Y)
+    sound : (Y : ℕ) → has Y after ≡ true → (has Y seen ≡ true) ⊎ ((W : ℕ) × Among W list × RouteLacking plan barred W Y)
     closed : (Y : ℕ) → has Y after ≡ true → (has Y seen ≡ true) ⊎ Closed after Y
     starts : (W : ℕ) → Among W list → (barred W ≡ true) ⊎ (has W after ≡ true)
 
@@ -119,7 +119,7 @@ module _ (plan : Plan) (barred : ℕ → Bool) where
   taken-in seen after X free r = record {
     grows = λ i e. r .grows i (plus-within seen X i e);
     sound = λ Y e. ⊎-elim
-        (λ p. ⊎-elim inl (λ q. inr (subst (Without plan barred X) (sym q) (without-alone plan barred X free))) (plus-cases seen X Y p))
+        (λ p. ⊎-elim inl (λ q. inr (subst (RouteLacking plan barred X) (sym q) (without-alone plan barred X free))) (plus-cases seen X Y p))
         (λ p. inr (without-onward plan barred X (p .0) Y free (p .1) (p .2))) (r .sound Y e);
     closed = λ Y e. ⊎-elim
         (λ p. ⊎-elim inl (λ q. inr (subst (Closed after) (sym q) (r .starts))) (plus-cases seen X Y p)) inr (r .closed Y e);
@@ -149,12 +149,12 @@ module _ (plan : Plan) (barred : ℕ → Bool) where
             (all-entered depth (enter plan barred depth) ih (successors (at plan X .form)) (plus seen X) less (low X))
         go ih false e = left-out seen X (shut-cases barred seen X e l)
 
-    reach-from : (X Y : ℕ) → X < 64 → has Y (reach plan barred X) ≡ true → Without plan barred X Y
+    reach-from : (X Y : ℕ) → X < 64 → has Y (reach plan barred X) ≡ true → RouteLacking plan barred X Y
     unfolding reach
     reach-from X Y l e =
         ⊎-elim (λ z. absurd (passes-fails (has Y 0) z (has-none Y))) (λ h. h) (entered 64 0 X (omega arith) l .sound Y e)
 
-    reach-to : (X Y : ℕ) → X < 64 → Without plan barred X Y → has Y (reach plan barred X) ≡ true
+    reach-to : (X Y : ℕ) → X < 64 → RouteLacking plan barred X Y → has Y (reach plan barred X) ≡ true
     unfolding reach
     reach-to X Y l h =
         let v = entered 64 0 X (omega arith) l in
@@ -236,6 +236,6 @@ module _ (plan : Plan) (p q : ℕ → Bool) (same : (X : ℕ) → X < 64 → p X
 
 -- A search reaches Y exactly where some route without a barred template does.
 pub reach-exactly : (plan : Plan) → InRange plan → (barred : ℕ → Bool) (X Y : ℕ) → X < 64
-    → (has Y (reach plan barred X) ≡ true) ↔ Without plan barred X Y
+    → (has Y (reach plan barred X) ≡ true) ↔ RouteLacking plan barred X Y
 reach-exactly plan range barred X Y l =
     (reach-from plan barred (range-low plan range) X Y l, reach-to plan barred (range-low plan range) X Y l)

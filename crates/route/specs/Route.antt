@@ -27,7 +27,7 @@ abbrev pub equals : ℕ → ℕ → Bool
 equals A X = eqb X A
 
 -- A route from X to Z without a template that passes the test.
-pub record Without (plan : Plan) (test : ℕ → Bool) (X Z : ℕ) : Type 0 where
+pub record RouteLacking (plan : Plan) (test : ℕ → Bool) (X Z : ℕ) : Type 0 where
   pub list : List ℕ
   pub route : Route plan X Z list
   pub lacks : Lacks test list
@@ -37,7 +37,7 @@ abbrev pub Reached : Plan → ℕ → Type 0
 Reached plan X = (route : List ℕ) × Route plan 0 X route
 
 abbrev pub ReachedLacking : Plan → ℕ → ℕ → Type 0
-ReachedLacking plan A X = Without plan (equals A) 0 X
+ReachedLacking plan A X = RouteLacking plan (equals A) 0 X
 
 abbrev pub ReachedHolding : Plan → ℕ → ℕ → Type 0
 ReachedHolding plan A X = (route : List ℕ) × Route plan 0 X route × Holds (equals A) route
@@ -57,8 +57,8 @@ pub record Forked (plan : Plan) (test : ℕ → Bool) (S K : ℕ) : Type 0 where
   pub other : ℕ
   pub reached : Reached plan L
   pub branches : Branches (at plan L .form) one other
-  pub to-S : Without plan test one S
-  pub to-K : Without plan test other K
+  pub to-S : RouteLacking plan test one S
+  pub to-K : RouteLacking plan test other K
 
 module _ (plan : Plan) (t S K A : ℕ) where
   -- "Some fork L has a route from one branch to S and one from the other branch to K, both without C, and either one
@@ -73,7 +73,7 @@ module _ (plan : Plan) (t S K A : ℕ) where
     pub reached : Reached plan S
     pub child : ℕ
     pub successor : Successor plan S child
-    pub to-K : Without plan (creates plan t) child K
+    pub to-K : RouteLacking plan (creates plan t) child K
     pub ancestor : Holds (equals A) (to-K .list) ⊎ ReachedLacking plan A S
 
   -- Document 01's Joined (t, S, K, A).

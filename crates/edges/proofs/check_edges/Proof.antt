@@ -19,6 +19,18 @@ capped-requires c κs = search needs
 loop-holds : tie.Need-loop-holds Inv-loop μ-loop
 loop-holds c = search edges-start
 
+template-at-requires : tie.Need-template-at-requires Inv-loop μ-loop
+template-at-requires c κs = search needs
+
+successors-of-requires : tie.Need-successors-of-requires Inv-loop μ-loop
+successors-of-requires c κs = search needs
+
+template-at-requires-2 : tie.Need-template-at-requires-2 Inv-loop μ-loop
+template-at-requires-2 c κs = search needs
+
+template-at-requires-3 : tie.Need-template-at-requires-3 Inv-loop μ-loop
+template-at-requires-3 c κs = search needs
+
 check-edges-from-requires : tie.Need-check-edges-from-requires Inv-loop μ-loop
 check-edges-from-requires c κs = search needs
 
@@ -35,7 +47,10 @@ loop-less : tie.Need-loop-less Inv-loop μ-loop
 loop-less c = omega arith
 
 loop-again : tie.Need-loop-again Inv-loop μ-loop
-loop-again c = search (edges-more, not-false)
+loop-again c =
+    edges-more _ _ _ (c .before .before .before .before .before .before .before .before .loop .inv) (c .before .before .before .before .before .before .before .loop-test .taken) _ (c .before .before .before .before .before .before .template-at .ensures) _ (c .before .before .before .before .before .successors-of .ensures)
+    _ _ (c .before .before .before .before .template-at2 .ensures) (c .before .before .before .template-at3 .ensures) _ (c .before .before .check-edges-from .ensures) _ (c .before .is-accepted .ensures)
+    (not-false _ (c .if1 .left))
 
 returns-2 : tie.Need-returns-2 Inv-loop μ-loop
 returns-2 c = search edges-end
@@ -48,6 +63,10 @@ check-edges-spec =
     μ-loop
     capped-requires
     loop-holds
+    template-at-requires
+    successors-of-requires
+    template-at-requires-2
+    template-at-requires-3
     check-edges-from-requires
     is-accepted-requires
     returns
