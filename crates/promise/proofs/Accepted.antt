@@ -21,7 +21,7 @@ use Rattle.plan.specs.Range.{InRange}
 use Rattle.rules.specs.Rules.{Kept, EveryRule, Serves}
 use Rattle.rules.specs.Judge.{offends12, offends13, offends16}
 use Rattle.machine.specs.Machine.{mayBecome}
-use Rattle.machine.proofs.Templates.{among-all, all-among}
+use Rattle.plan.proofs.Among.{among-all, all-among}
 
 -- ---- rules 12, 13 and 16
 
