@@ -6,7 +6,7 @@ use mathlib.Core.Bool.{Bool, true, false, not, false≢true}
 use mathlib.Core.List.{List, [], _∷_}
 use mathlib.Core.Option.{some}
 use native.Mathlib.Omega.{arith}
-use lib.ListN.{length, getD, replicate, getD-replicate}
+use lib.ListN.{getD, replicate, getD-replicate}
 use borrow.Author.Tests.{not-true, not-false}
 use Rattle.lists.specs.Numbers.{tabulate}
 use Rattle.lists.proofs.Length.{getD-same}

@@ -1,5 +1,5 @@
 -- What stands at a place of a plan and of a policy (document 01, "The two texts"). The types are the code's own.
--- Believed: everything here. Proved against it: crate plan.
+-- Believed: everything here. Proved against it: crates plan and planrow.
 use Prim.Native.Nat.{ℕ, _^_}
 use mathlib.Core.{Path.{_≡_}, Logic.{_⊎_}, Bool.{Bool, false, _&&_}, List.{List, [], _∷_}}
 use lib.{Dec.{ltb}, ListN.{getD}}
@@ -34,8 +34,7 @@ successors (Both Y Z) = Y ∷ Z ∷ []
 unfoldable pub masks : Template → List ℕ
 masks t = t .lab ∷ t .pos ∷ t .neg ∷ t .creates ∷ []
 
--- Document 01, 20, of one template among N, over M identifiers: not "a plan's successor not below N", not "a mask [..]
--- of the plan beyond M".
+-- Document 01, 20, of one template: not "a plan's successor not below N", not "a mask [..] of the plan beyond M".
 unfoldable pub templateFits : ℕ → ℕ → Template → Bool
 templateFits N M t = all (λ Y. ltb Y N) (successors (t .form)) && all (λ mask. ltb mask (2 ^ M)) (masks t)
 

@@ -170,6 +170,10 @@ module _ (row : List ℕ) (X n m : ℕ) where
       below : ℕ → Bool
       below k = (ltb k 1 || ltb (word 1) n) && (ltb k 2 || ltb (word 2) n)
 
+-- How many masks a template has.
+abbrev pub maskCount : ℕ
+maskCount = 4
+
 -- After k masks of template X what is in any of them is below 2 ^ m exactly where each is.
 module _ (row : List ℕ) (X m : ℕ) where
   abbrev pub masksBelow : ℕ → Bool
@@ -186,7 +190,7 @@ module _ (row : List ℕ) (X m : ℕ) where
       ap (λ (j : ℕ). ltb (bitOr joined (getD row j 0)) (2 ^ m)) place ∙ or-below m joined _ ∙ every-acc k _ _ e
 
   -- r is the answer of `is_mask`.
-  pub joined-all : (k joined : ℕ) (r : Bool) → r ≡ ltb joined (2 ^ m) → ltb joined (2 ^ m) ≡ masksBelow k → k ≤ 4 → 4 ≤ k
+  pub joined-all : (k joined : ℕ) (r : Bool) → r ≡ ltb joined (2 ^ m) → ltb joined (2 ^ m) ≡ masksBelow k → k ≤ maskCount → maskCount ≤ k
       → r ≡ all (λ mask. ltb mask (2 ^ m)) (masks (templateIn row X))
   unfolding every all masks templateIn templateOf
-  joined-all k joined r q e l g = q ∙ every-done 4 _ k _ l g e
+  joined-all k joined r q e l g = q ∙ every-done maskCount _ k _ l g e

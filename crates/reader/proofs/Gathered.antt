@@ -1,6 +1,6 @@
 -- Lines read one after the other are the definition's lines: each reader's answer put into the place of its line.
 use Prim.Native.Nat.{ℕ, _≤_}
-use mathlib.Core.Path.{_≡_, refl, ap, _∙_}
+use mathlib.Core.Path.{_≡_, ap, _∙_}
 use mathlib.Core.Bool.{Bool, false}
 use mathlib.Core.List.{List, []}
 use Rattle.plan.specs.declared.Form.{Form}
@@ -15,7 +15,7 @@ use Rattle.plan.specs.declared.Policy.{Policy}
 use Rattle.plan.specs.Plan.{blank, blankAssertion, masks}
 use Rattle.scan.specs.Bytes.{bytes}
 use Rattle.field.specs.Fields.{number, templateNumber, name, form, risk, kind, declass}
-use Rattle.text.specs.Reading.{longest, on, Step, line, Entry, entry, plan, assertion, policy}
+use Rattle.text.specs.Reading.{longest, on, Step, Entry, entry, plan, assertion, policy}
 use Rattle.text.specs.Cursors.{cursorOf, stepOf, keyed}
 use Rattle.text.specs.declared.Position.{Position}
 use Rattle.text.specs.declared.Position.the-variants.{On}

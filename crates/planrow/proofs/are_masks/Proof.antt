@@ -4,15 +4,15 @@ use mathlib.Core.Path.{_≡_}
 use native.Mathlib.Omega.{arith}
 use lib.Dec.{ltb}
 use borrow.Author.Needs.{needs}
-use Rattle.planrow.proofs.Fits.{masksBelow, joined-none, joined-more, joined-all}
+use Rattle.planrow.proofs.Fits.{maskCount, masksBelow, joined-none, joined-more, joined-all}
 use Rattle.planrow.proofs.are_masks.Statement.{statement}
 use Rattle.planrow.proofs.are_masks.Tie as tie
 
 abbrev Inv-loop : tie.InvT-loop
-Inv-loop row x m first joined₀ k₀ joined k = (k ≤ 4) × (ltb joined (2 ^ m) ≡ masksBelow row x m k)
+Inv-loop row x m first joined₀ k₀ joined k = (k ≤ maskCount) × (ltb joined (2 ^ m) ≡ masksBelow row x m k)
 
 abbrev μ-loop : tie.MeasureT-loop
-μ-loop row x m first joined₀ k₀ joined k = 4 - k
+μ-loop row x m first joined₀ k₀ joined k = maskCount - k
 
 mul-first : tie.Need-mul-first Inv-loop μ-loop
 mul-first c = search needs

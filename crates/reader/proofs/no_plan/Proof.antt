@@ -2,7 +2,7 @@
 use mathlib.Core.Path.{ap}
 use lib.ListN.{replicate}
 use borrow.Author.Needs.{needs}
-use Rattle.plan.specs.declared.{Template.{Template}, Plan.{Plan}}
+use Rattle.plan.specs.declared.Template.{Template}
 use Rattle.reader.proofs.no_plan.Statement.{statement}
 use Rattle.reader.proofs.no_plan.Tie as tie
 

@@ -2,7 +2,7 @@
 use mathlib.Core.Path.{ap}
 use lib.ListN.{replicate}
 use borrow.Author.Needs.{needs}
-use Rattle.plan.specs.declared.{Assertion.{Assertion}, Policy.{Policy}}
+use Rattle.plan.specs.declared.Assertion.{Assertion}
 use Rattle.reader.proofs.no_policy.Statement.{statement}
 use Rattle.reader.proofs.no_policy.Tie as tie
 
