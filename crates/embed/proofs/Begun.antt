@@ -1,16 +1,11 @@
 -- What start leaves, as the code meets it: `begun` is what monitor::start gave.
 use Prim.Native.Nat.{ℕ}
-use mathlib.Core.Path.{_≡_, refl, sym, ap, _∙_, subst}
+use mathlib.Core.Path.{_≡_, refl, sym, ap, _∙_}
 use mathlib.Core.Logic.{_≢_}
 use mathlib.Core.List.{List, [], _∷_}
 use mathlib.Core.Option.{some}
-use native.Mathlib.Omega.{arith}
-use lib.ListN.{length}
-use Rattle.lists.proofs.Length.{getD-same}
-use Rattle.plan.specs.declared.Template.{Template}
 use Rattle.plan.specs.declared.Plan.{Plan}
-use Rattle.plan.specs.Plan.{blank, at}
-use Rattle.text.specs.Reading.{readPlan, noPlan}
+use Rattle.text.specs.Reading.{readPlan}
 use Rattle.rules.specs.declared.Verdict.{Verdict}
 use Rattle.rules.specs.declared.Verdict.the-variants.{Accepted, Broken, Unread}
 use Rattle.rules.specs.Judge.{judge}
@@ -19,25 +14,17 @@ use Rattle.machine.specs.declared.Started.{Started}
 use Rattle.machine.specs.Machine.{Machine, start}
 use Rattle.machine.specs.State.{Cells, machineFrom, machineOf, blankState, startOn, started}
 use Rattle.planrow.specs.Row.{planOfRow, rowOfPlan}
-use Rattle.planrow.proofs.RoundTrip.{row-means}
+use Rattle.planrow.proofs.RoundTrip.{none-means}
 use Rattle.monitor.proofs.Starting.{accepted-means}
 use Rattle.embed.specs.Embed.{held, machineIn, verdictWords, Starts}
 
-at-blank : (X : ℕ) → at noPlan X ≡ blank
-unfolding at
-at-blank X = getD-same Template 64 X blank
-
--- The row of the plan without templates means it too.
-blank-means : planOfRow (rowOfPlan noPlan) ≡ some noPlan
-blank-means = row-means noPlan (omega arith) (λ X Y h s. omega arith) (λ X h. at-blank X) refl
-
 module _ (planText policyText : List ℕ) where
-  started-means : (v : Verdict) → judge planText policyText ≡ v → length (startOn v (readPlan planText .plan) .plan .templates) ≡ 64
+  started-means : (v : Verdict) → judge planText policyText ≡ v
       → planOfRow (rowOfPlan (startOn v (readPlan planText .plan) .plan)) ≡ some (startOn v (readPlan planText .plan) .plan)
   unfolding startOn start machineOf machineFrom
-  started-means Accepted e sized = accepted-means planText policyText e sized
-  started-means (Broken b) e sized = blank-means
-  started-means (Unread f) e sized = blank-means
+  started-means Accepted e = accepted-means planText policyText e
+  started-means (Broken b) e = none-means
+  started-means (Unread f) e = none-means
 
   module _ (begun : Started) (w : (begun .verdict ≡ judge planText policyText) × (machineOf (begun .state) ≡ started planText policyText) × (begun .verdict ≢ Accepted → begun .state ≡ blankState)) where
     same-plan : begun .state .plan ≡ started planText policyText .plan
@@ -45,15 +32,12 @@ module _ (planText policyText : List ℕ) where
     same-plan = ap (λ (m : Machine). m .plan) (w .1)
 
     pub starts-so : (words row : List ℕ) → words ≡ verdictWords (begun .verdict) → row ≡ rowOfPlan (begun .state .plan)
-        → length (begun .state .plan .templates) ≡ 64
         → Starts planText policyText words row (held (begun .state .next ∷ begun .state .live ∷ []) (begun .state .serials) (begun .state .templates) (begun .state .labels) (begun .state .tags))
     unfolding started machineIn machineOf
-    starts-so words row ew er sized = record {
+    starts-so words row ew er = record {
       judged = ew ∙ ap verdictWords (w .0);
       written = er ∙ ap rowOfPlan same-plan;
-      means =
-          ap planOfRow (er ∙ ap rowOfPlan same-plan)
-          ∙ started-means (judge planText policyText) refl (subst (λ (p : Plan). length (p .templates) ≡ 64) same-plan sized);
+      means = ap planOfRow (er ∙ ap rowOfPlan same-plan) ∙ started-means (judge planText policyText) refl;
       machine =
           ap (λ (p : Plan). machineFrom p (begun .state .next) (begun .state .live) cells) (sym same-plan) ∙ w .1;
       blank = λ n.

@@ -14,10 +14,10 @@ use Rattle.lists.specs.Numbers.{all}
 use Rattle.lists.proofs.Tests.{and-left, and-right}
 use Rattle.lists.proofs.Every.{every-ext}
 use Rattle.plan.specs.declared.{Template.{Template}, Plan.{Plan}}
-use Rattle.plan.specs.Plan.{at, creates}
+use Rattle.plan.specs.Plan.{at, creates, templateFits}
 use Rattle.machine.specs.declared.Answer.{Answer, the-variants.{Done, Delivered, Held, Refused}}
 use Rattle.machine.specs.Machine.{Process, Machine, Limits, Call, step, send, raise, lower, Outcome, ifDone, settled}
-use Rattle.machine.specs.Machine.{templateFits, planFits, processFits, rising, populationFits, wellFormed, find, children}
+use Rattle.machine.specs.Machine.{planFits, processFits, rising, populationFits, wellFormed, find, children}
 use Rattle.machine.specs.Machine.{mayBecome, child, spawn, stepAnswer, stepped, passes, moveAnswer, moved}
 use Rattle.machine.specs.Machine.{stepBy, sendBy, labelWith, moveBy, answerTo, run}
 use Rattle.machine.proofs.Templates.{process-template, successors-fit, children-fit}

@@ -4,32 +4,19 @@ use Prim.Native.Nat.{ℕ, _^_, _≤_, _<_}
 use mathlib.Core.Path.{_≡_, refl}
 use mathlib.Core.Logic.{_⊎_, inl, inr}
 use mathlib.Core.Bool.{Bool, true, false, cond, _&&_}
-use mathlib.Core.List.{List, [], _∷_}
+use mathlib.Core.List.{List}
 use lib.Dec.{eqb, leb, ltb}
 use borrow.Author.Tests.{ltb-true, leb-true, lt-ltb, le-leb}
 use Rattle.lists.specs.Numbers.{all}
 use Rattle.lists.proofs.Tests.{and-left, and-right, and-three, and-of}
 use Rattle.lists.proofs.Every.{every-at, every-of}
-use Rattle.mask.proofs.Width.{below-lt}
 use Rattle.plan.specs.declared.{Form.{Form, the-variants.{End, Go, Either, Both}}, Plan.{Plan}}
-use Rattle.plan.specs.Plan.{at, successors, Among}
-use Rattle.plan.specs.Range.{Below, InRange}
-use Rattle.machine.specs.Machine.{Process, templateFits, planFits, processFits, children}
-
--- ---- what is so of each number of a list
-
--- A test that holds of all holds of each,
-pub among-all : (p : ℕ → Bool) (l : List ℕ) → all p l ≡ true → (x : ℕ) → Among x l → p x ≡ true
-unfolding all
-among-all p [] e x a = absurd a
-among-all p (y ∷ l) e x (inl q) = rw q (and-left (p y) (all p l) e)
-among-all p (y ∷ l) e x (inr a) = among-all p l (and-right (p y) (all p l) e) x a
-
--- and back.
-pub all-among : (p : ℕ → Bool) (l : List ℕ) → ((x : ℕ) → Among x l → p x ≡ true) → all p l ≡ true
-unfolding all
-all-among p [] h = refl
-all-among p (y ∷ l) h = and-of (p y) (all p l) (h y (inl refl)) (all-among p l (λ x a. h x (inr a)))
+use Rattle.plan.specs.Plan.{at, successors, masks, templateFits, Among}
+use Rattle.plan.specs.Range.{InRange}
+use Rattle.plan.proofs.Among.{among-all, all-among}
+use Rattle.plan.proofs.Fitting.{successors-pass, successor-fits, mask-fits}
+use Rattle.text.specs.Reading.{noPlan}
+use Rattle.machine.specs.Machine.{Process, planFits, processFits, children}
 
 -- ---- the children of a step
 
@@ -80,7 +67,8 @@ module _ (plan : Plan) (e : planFits plan ≡ true) where
   pub plan-few : plan .identifiers ≤ 32
   plan-few = leb-true (plan .identifiers) 32 (counts .2)
 
-  template-fits : (X : ℕ) → X < plan .count → templateFits (plan .count) (plan .identifiers) (at plan X) ≡ true
+  -- Each template fits.
+  pub template-fits : (X : ℕ) → X < plan .count → templateFits (plan .count) (plan .identifiers) (at plan X) ≡ true
   unfolding planFits
   template-fits X h =
       every-at (plan .count) (λ X. templateFits (plan .count) (plan .identifiers) (at plan X))
@@ -88,34 +76,29 @@ module _ (plan : Plan) (e : planFits plan ≡ true) where
 
   -- The successors of a template are templates of the plan,
   pub successors-fit : (X : ℕ) → X < plan .count → all (λ Y. ltb Y (plan .count)) (successors (at plan X .form)) ≡ true
-  unfolding templateFits
-  successors-fit X h = and-left (all (λ Y. ltb Y (plan .count)) (successors (at plan X .form))) _ (template-fits X h)
+  successors-fit X h = successors-pass (plan .count) (plan .identifiers) (at plan X) (template-fits X h)
 
   -- so those of a step's children are,
   pub child-below : (X branch : ℕ) → X < plan .count → (Y : ℕ) → Among Y (childrenAt plan X branch) → Y < plan .count
-  child-below X branch h Y a =
-      ltb-true Y (plan .count)
-      (among-all (λ Y. ltb Y (plan .count)) (childrenAt plan X branch)
-      (children-fit (plan .count) branch (at plan X .form) (successors-fit X h)) Y a)
+  child-below X branch h =
+      children-are (λ Y. Y < plan .count) (at plan X .form) branch
+      (successor-fits (plan .count) (plan .identifiers) (at plan X) (template-fits X h))
 
   -- and the label of each is within the plan's identifiers.
   pub lab-below : (X : ℕ) → X < plan .count → at plan X .lab < 2 ^ plan .identifiers
-  unfolding templateFits
-  lab-below X h =
-      ltb-true (at plan X .lab) (2 ^ plan .identifiers)
-      (and-left _ _ (and-right (all (λ Y. ltb Y (plan .count)) (successors (at plan X .form))) _ (template-fits X h)))
+  unfolding masks
+  lab-below X h = mask-fits (plan .count) (plan .identifiers) (at plan X) (template-fits X h) (at plan X .lab) (inl refl)
 
 -- A plan in range fits.
 pub range-fits : (plan : Plan) → InRange plan → planFits plan ≡ true
-unfolding planFits templateFits
+unfolding planFits
 range-fits plan range =
     and-of _ _
     (and-of _ _ (lt-ltb 0 (plan .count) (range .rooted))
     (and-of _ _ (le-leb (plan .count) 64 (range .templates)) (le-leb (plan .identifiers) 32 (range .identifiers))))
-    (every-of (plan .count) (λ X. templateFits (plan .count) (plan .identifiers) (at plan X)) (λ X h.
-    and-of _ _ (all-among (λ Y. ltb Y (plan .count)) (successors (at plan X .form)) (λ Y s. lt-ltb Y (plan .count) (range .successors X Y s)))
-    (and-of _ _ (mask (at plan X .lab) (range .lab X)) (and-of _ _ (mask (at plan X .pos) (range .pos X))
-    (and-of _ _ (mask (at plan X .neg) (range .neg X)) (mask (at plan X .creates) (range .creates X)))))))
-  where
-    mask : (m : ℕ) → Below (plan .identifiers) m → ltb m (2 ^ plan .identifiers) ≡ true
-    mask m h = lt-ltb m (2 ^ plan .identifiers) (below-lt (plan .identifiers) m h)
+    (every-of (plan .count) (λ X. templateFits (plan .count) (plan .identifiers) (at plan X)) (range .each))
+
+-- What a refused text hands back does not: it has no root.
+pub none-unfit : planFits noPlan ≡ false
+unfolding planFits
+none-unfit = refl

@@ -7,7 +7,7 @@ use lib.{Dec.{eqb, leb, ltb}, ListN.{length, getD}}
 use Rattle.lists.specs.Numbers.{every, all, tabulate}
 use Rattle.mask.specs.Mask.{has, plus, without}
 use Rattle.plan.specs.declared.{Form.{Form, the-variants.{End, Go, Either, Both}}, Template.{Template}, Plan.{Plan}}
-use Rattle.plan.specs.Plan.{at, successors, creates}
+use Rattle.plan.specs.Plan.{at, creates, templateFits}
 use Rattle.rules.specs.Judge.{EdgeRule, stepRules}
 use Rattle.machine.specs.declared.Answer.{Answer, the-variants.{Done, Delivered, Held, Refused}}
 
@@ -57,13 +57,7 @@ ifDone Delivered new old = old
 ifDone Held new old = old
 ifDone (Refused n) new old = old
 
--- "A plan's successor not below N", "a mask [..] of the plan beyond M".
-unfoldable pub templateFits : ℕ → ℕ → Template → Bool
-templateFits N M t =
-    all (λ Y. ltb Y N) (successors (t .form))
-    && (ltb (t .lab) (2 ^ M) && (ltb (t .pos) (2 ^ M) && (ltb (t .neg) (2 ^ M) && ltb (t .creates) (2 ^ M))))
-
--- "A count [..] passed": 1 to 64 templates, 0 to 32 identifiers.
+-- "A count [..] passed": 1 to 64 templates, 0 to 32 identifiers; and each template fits.
 unfoldable pub planFits : Plan → Bool
 planFits plan =
     (ltb 0 (plan .count) && (leb (plan .count) 64 && leb (plan .identifiers) 32))

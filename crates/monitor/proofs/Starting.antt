@@ -6,7 +6,7 @@ use mathlib.Core.Bool.{Bool, true, false, not, false≢true}
 use mathlib.Core.List.{List, [], _∷_}
 use mathlib.Core.Option.{some}
 use native.Mathlib.Omega.{arith}
-use lib.ListN.{length, getD, replicate, getD-replicate}
+use lib.ListN.{getD, replicate, getD-replicate}
 use borrow.Author.Tests.{not-true, not-false}
 use Rattle.lists.specs.Numbers.{tabulate}
 use Rattle.lists.proofs.Length.{getD-same}
@@ -107,12 +107,12 @@ module _ (planText policyText : List ℕ) (v : Verdict) (ev : v ≡ judge planTe
 -- ---- the row of a started plan
 
 -- An accepted plan is what its row means,
-pub accepted-means : (planText policyText : List ℕ) → judge planText policyText ≡ Accepted → length (readPlan planText .plan .templates) ≡ 64
+pub accepted-means : (planText policyText : List ℕ) → judge planText policyText ≡ Accepted
     → planOfRow (rowOfPlan (readPlan planText .plan)) ≡ some (readPlan planText .plan)
-accepted-means planText policyText e sized =
-    round-trip (readPlan planText .plan) (plan-in-range planText (accepted-exactly planText policyText .0 e .plan-reads)) sized
+accepted-means planText policyText e =
+    round-trip (readPlan planText .plan) (plan-in-range planText (accepted-exactly planText policyText .0 e .plan-reads))
 
 -- and so what its row stands for.
-pub accepted-row : (planText policyText : List ℕ) → judge planText policyText ≡ Accepted → length (readPlan planText .plan .templates) ≡ 64
+pub accepted-row : (planText policyText : List ℕ) → judge planText policyText ≡ Accepted
     → planFor (rowOfPlan (readPlan planText .plan)) ≡ readPlan planText .plan
-accepted-row planText policyText e sized = stands-for _ _ (accepted-means planText policyText e sized)
+accepted-row planText policyText e = stands-for _ _ (accepted-means planText policyText e)

@@ -1,8 +1,9 @@
 -- What stands at a place of a plan and of a policy (document 01, "The two texts"). The types are the code's own.
--- Believed: everything here. Proved against it: crate plan.
-use Prim.Native.Nat.{ℕ}
-use mathlib.Core.{Path.{_≡_}, Logic.{_⊎_}, Bool.{Bool, false}, List.{List, [], _∷_}}
-use lib.ListN.{getD}
+-- Believed: everything here. Proved against it: crates plan and planrow.
+use Prim.Native.Nat.{ℕ, _^_}
+use mathlib.Core.{Path.{_≡_}, Logic.{_⊎_}, Bool.{Bool, false, _&&_}, List.{List, [], _∷_}}
+use lib.{Dec.{ltb}, ListN.{getD}}
+use Rattle.lists.specs.Numbers.{all}
 use Rattle.mask.specs.Mask.{has}
 use Rattle.plan.specs.declared.{Form.{Form, the-variants.{End, Go, Either, Both}}, Template.{Template}}
 use Rattle.plan.specs.declared.{Plan.{Plan}, Kind.the-variants.{Secrecy}, Assertion.{Assertion}, Policy.{Policy}}
@@ -28,6 +29,14 @@ successors End = []
 successors (Go Y) = Y ∷ []
 successors (Either Y Z) = Y ∷ Z ∷ []
 successors (Both Y Z) = Y ∷ Z ∷ []
+
+-- "8 digits each, over identifiers": a template's masks, in the order of their lines.
+unfoldable pub masks : Template → List ℕ
+masks t = t .lab ∷ t .pos ∷ t .neg ∷ t .creates ∷ []
+
+-- Document 01, 20, of one template: not "a plan's successor not below N", not "a mask [..] of the plan beyond M".
+unfoldable pub templateFits : ℕ → ℕ → Template → Bool
+templateFits N M t = all (λ Y. ltb Y N) (successors (t .form)) && all (λ mask. ltb mask (2 ^ M)) (masks t)
 
 -- x stands in a list.
 abbrev pub Among : ℕ → List ℕ → Type 0

@@ -1,30 +1,24 @@
--- What reading a plan and a policy promises: no number and no mask in them is out of range. A law of crate text says
--- that everything read is so; crates route, rules and promise use it.
+-- What reading a plan and a policy promises: no number and no mask in them is out of range, and the places that no line
+-- filled are blank. A law of crate reader says that everything read is so; crates route, rules and promise use it.
 -- Not to be believed: nothing is stated of a program by these alone.
-use Prim.Native.Nat.{ℕ, _≤_, _<_}
+use Prim.Native.Nat.{ℕ, _^_, _≤_, _<_}
 use mathlib.Core.Path.{_≡_}
 use mathlib.Core.Bool.{true, false}
+use lib.ListN.{length}
 use Rattle.mask.specs.Mask.{has}
 use Rattle.plan.specs.declared.Plan.{Plan}
 use Rattle.plan.specs.declared.Kind.{Kind}
 use Rattle.plan.specs.declared.Kind.the-variants.{Secrecy, Prot}
 use Rattle.plan.specs.declared.Assertion.{Assertion}
 use Rattle.plan.specs.declared.Policy.{Policy}
-use Rattle.plan.specs.Plan.{blank, at, assertionAt, Successor}
-
--- Each item of the mask is below the limit.
-abbrev pub Below : ℕ → ℕ → Type 0
-Below limit mask = (i : ℕ) → has i mask ≡ true → i < limit
+use Rattle.plan.specs.Plan.{blank, blankAssertion, at, assertionAt, templateFits}
 
 pub record InRange (plan : Plan) : Type 0 where
   pub rooted : 0 < plan .count
   pub templates : plan .count ≤ 64
   pub identifiers : plan .identifiers ≤ 32
-  pub successors : (X Y : ℕ) → Successor plan X Y → Y < plan .count
-  pub lab : (X : ℕ) → Below (plan .identifiers) (at plan X .lab)
-  pub pos : (X : ℕ) → Below (plan .identifiers) (at plan X .pos)
-  pub neg : (X : ℕ) → Below (plan .identifiers) (at plan X .neg)
-  pub creates : (X : ℕ) → Below (plan .identifiers) (at plan X .creates)
+  pub places : length (plan .templates) ≡ 64
+  pub each : (X : ℕ) → X < plan .count → templateFits (plan .count) (plan .identifiers) (at plan X) ≡ true
   pub unused : (X : ℕ) → plan .count ≤ X → at plan X ≡ blank
 
 -- Number 6: "a secrecy's declass holds its own source or sink, or a prot's declass is not zero".
@@ -32,13 +26,16 @@ abbrev pub Clear : Kind → ℕ → ℕ → ℕ → Type 0
 Clear Secrecy source sink declass = (has source declass ≡ false) × (has sink declass ≡ false)
 Clear Prot source sink declass = declass ≡ 0
 
+-- Each field is what one test of two numbers says.
 pub record AssertionInRange (count : ℕ) (a : Assertion) : Type 0 where
   pub source : a .source < count
   pub sink : a .sink < count
   pub anc : a .anc < count
-  pub declass : Below count (a .declass)
+  pub declass : a .declass < 2 ^ count
   pub clear : Clear (a .kind) (a .source) (a .sink) (a .declass)
 
 pub record PolicyInRange (count : ℕ) (policy : Policy) : Type 0 where
   pub assertions : policy .count ≤ 32
+  pub places : length (policy .assertions) ≡ 32
   pub each : (i : ℕ) → i < policy .count → AssertionInRange count (assertionAt policy i)
+  pub unused : (i : ℕ) → policy .count ≤ i → assertionAt policy i ≡ blankAssertion

@@ -1,8 +1,11 @@
 // A plan and a policy as they are after reading, and what stands at a place of them.
 ghost use mathlib.Core.Path.{_≡_};
 ghost use Prim.Native.Nat.{min};
-ghost use Rattle.plan.specs.Plan.{blank, at, successors, assertionAt};
+ghost use Rattle.plan.specs.Plan.{blank, blankAssertion, at, successors, assertionAt};
 ghost use Rattle.plan.specs.Listed.{listed};
+
+// How many masks a template has.
+pub const MASKS: usize = 4;
 
 // Document 01, `form=`: the numbers are the successors Y and Z.
 pub enum Form {
@@ -80,6 +83,18 @@ pub fn blank_template() -> Template
     }
 }
 
+pub fn blank_assertion() -> Assertion
+    ensures { λ r. ⌜ r ≡ blankAssertion ⌝ }
+{
+    Assertion {
+        kind: Kind::Secrecy,
+        source: 0,
+        sink: 0,
+        anc: 0,
+        declass: 0,
+    }
+}
+
 // The template of that number, blank where the plan has no place for it.
 pub fn template_at(plan: Plan, x: u8) -> Template
     ensures { λ r. ⌜ r ≡ at plan x ⌝ }
@@ -123,13 +138,7 @@ pub fn assertion_at(policy: Policy, i: usize) -> Assertion
     ensures { λ r. ⌜ r ≡ assertionAt policy i ⌝ }
 {
     if 32 <= i {
-        return Assertion {
-            kind: Kind::Secrecy,
-            source: 0,
-            sink: 0,
-            anc: 0,
-            declass: 0,
-        };
+        return blank_assertion();
     }
     policy.assertions[i]
 }

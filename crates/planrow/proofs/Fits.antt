@@ -6,14 +6,15 @@ use mathlib.Core.List.{List}
 use native.Mathlib.Omega.{arith}
 use lib.ListN.{getD}
 use lib.Dec.{ltb, leb}
+use lib.Pow.{pow-pos}
 use lib.Bits.{bitOr, and-le-r, or-comm, or-lt, or-add-and}
 use borrow.Author.Tests.{le-ltb, lt-ltb, ltb-true, le-leb, lt-leb}
 use Rattle.lists.specs.Numbers.{every, all}
 use Rattle.lists.proofs.Tests.{and-left, and-right, and-of, fails, passes-fails, same-test}
-use Rattle.lists.proofs.Every.{every-ext, every-and, every-done}
-use Rattle.plan.specs.Plan.{at, successors}
-use Rattle.machine.specs.Machine.{templateFits, planFits}
-use Rattle.text.specs.Reading.{noPlan}
+use Rattle.lists.proofs.Every.{every-ext, every-and, every-start, every-acc, every-done}
+use Rattle.plan.specs.Plan.{at, successors, masks, templateFits}
+use Rattle.machine.specs.Machine.{planFits}
+use Rattle.machine.proofs.Templates.{none-unfit}
 use Rattle.planrow.specs.Row.{begins, countIn, identifiersIn, wordAt, formOf, templateOf, isTemplate, templateIn, isPlan}
 use Rattle.planrow.specs.Lookup.{planFor, templateAt}
 use Rattle.planrow.proofs.Reading.{word-first, template-tested, plan-template}
@@ -21,13 +22,9 @@ use Rattle.planrow.proofs.Lookup.{stands-not, stands-count, stands-iden
 
 -- ---- a plan that fits is that of a row that means one
 
-blank-unfit : planFits noPlan ≡ false
-unfolding planFits
-blank-unfit = refl
-
 -- A row that means no plan stands for one that does not fit.
 pub unfit-not : (row : List ℕ) → isPlan row ≡ false → planFits (planFor row) ≡ false
-unfit-not row e = ap planFits (stands-not row e) ∙ blank-unfit
+unfit-not row e = ap planFits (stands-not row e) ∙ none-unfit
 
 module _ (row : List ℕ) (f : planFits (planFor row) ≡ true) where
   pub fit-means : isPlan row ≡ true
@@ -157,15 +154,15 @@ module _ (row : List ℕ) (X n m : ℕ) where
   abbrev word : ℕ → ℕ
   word k = getD row (begins X + k) 0
 
-  -- s, t and r are the answers of `successor_fits` and `is_mask`.
+  -- s, t and r are the answers of `successor_fits` and `are_masks`.
   pub template-gathered : (s t r : Bool)
       → s ≡ (leb (word 1) 255 && (ltb (getD row (begins X) 0) 1 || ltb (word 1) n))
       → t ≡ (leb (word 2) 255 && (ltb (getD row (begins X) 0) 2 || ltb (word 2) n))
-      → r ≡ ltb (bitOr (word 3) (bitOr (word 4) (bitOr (word 5) (word 6)))) (2 ^ m)
+      → r ≡ all (λ mask. ltb mask (2 ^ m)) (masks (templateIn row X))
       → (leb (getD row (begins X) 0) 3 && (s && (t && (leb (word 7) 1 && r)))) ≡ fitsAt row n m X
   unfolding isTemplate templateFits templateIn templateOf wordAt
   template-gathered s t r es et er =
-      (λ i. leb (getD row (begins X) 0) 3 && (es i && (et i && (leb (word 7) 1 && (er ∙ masks) i))))
+      (λ i. leb (getD row (begins X) 0) 3 && (es i && (et i && (leb (word 7) 1 && er i))))
       ∙ regrouped (leb (getD row (begins X) 0) 3) (leb (word 1) 255) (leb (word 2) 255) (leb (word 7) 1) _ _ _
       ∙ ap₂ _&&_ (template-tested row X)
       (ap₂ _&&_ (ap below (word-first row X) ∙ successors-below (wordAt row X 0) (word 1) (word 2) n) refl)
@@ -173,8 +170,27 @@ module _ (row : List ℕ) (X n m : ℕ) where
       below : ℕ → Bool
       below k = (ltb k 1 || ltb (word 1) n) && (ltb k 2 || ltb (word 2) n)
 
-      masks : ltb (bitOr (word 3) (bitOr (word 4) (bitOr (word 5) (word 6)))) (2 ^ m)
-          ≡ (ltb (word 3) (2 ^ m) && (ltb (word 4) (2 ^ m) && (ltb (word 5) (2 ^ m) && ltb (word 6) (2 ^ m))))
-      masks =
-          or-below m (word 3) _ ∙ ap (λ (b : Bool). ltb (word 3) (2 ^ m) && b)
-          (or-below m (word 4) _ ∙ ap (λ (b : Bool). ltb (word 4) (2 ^ m) && b) (or-below m (word 5) (word 6)))
+-- How many masks a template has.
+abbrev pub maskCount : ℕ
+maskCount = 4
+
+-- After k masks of template X what is in any of them is below 2 ^ m exactly where each is.
+module _ (row : List ℕ) (X m : ℕ) where
+  abbrev pub masksBelow : ℕ → Bool
+  masksBelow k = every k (λ j. ltb (wordAt row X (3 + j)) (2 ^ m))
+
+  pub joined-none : ltb 0 (2 ^ m) ≡ masksBelow 0
+  joined-none = lt-ltb 0 (2 ^ m) (pow-pos m) ∙ every-start _
+
+  pub joined-more : (k joined : ℕ) → ltb joined (2 ^ m) ≡ masksBelow k
+      → ltb (bitOr joined (getD row (begins X + 3 + k) 0)) (2 ^ m) ≡ masksBelow (k + 1)
+  unfolding wordAt
+  joined-more k joined e =
+      let place : begins X + 3 + k ≡ begins X + (3 + k) = omega arith in
+      ap (λ (j : ℕ). ltb (bitOr joined (getD row j 0)) (2 ^ m)) place ∙ or-below m joined _ ∙ every-acc k _ _ e
+
+  -- r is the answer of `is_mask`.
+  pub joined-all : (k joined : ℕ) (r : Bool) → r ≡ ltb joined (2 ^ m) → ltb joined (2 ^ m) ≡ masksBelow k → k ≤ maskCount → maskCount ≤ k
+      → r ≡ all (λ mask. ltb mask (2 ^ m)) (masks (templateIn row X))
+  unfolding every all masks templateIn templateOf
+  joined-all k joined r q e l g = q ∙ every-done maskCount _ k _ l g e

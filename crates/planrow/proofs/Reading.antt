@@ -12,7 +12,7 @@ use borrow.Author.Tests.{le-leb, lt-leb, leb-true}
 use Rattle.lists.specs.Numbers.{every}
 use Rattle.lists.proofs.Tests.{and-left, and-right}
 use Rattle.lists.proofs.Every.{every-at, every-done}
-use Rattle.plan.specs.declared.Form.{Form, the-variants.{End, Go, Either, Both}}
+use Rattle.plan.specs.declared.{Form.{Form, the-variants.{End, Go, Either, Both}}, Template.{Template}}
 use Rattle.planrow.specs.Row.{width, begins, countIn, wordAt, formOf, templateOf, isTemplate, templateIn, isPlan}
 
 -- ---- a form by its number
@@ -73,18 +73,13 @@ module _ (row : List ℕ) (X : ℕ) where
   unfolding isTemplate wordAt
   template-tested = ap (λ (n : ℕ). leb n 3 && (leb (word 1) 255 && (leb (word 2) 255 && leb (word 7) 1))) (word-first row X)
 
-  pub template-whole : (form : Form) → form ≡ formOf (getD row (begins X) 0) (word 1) (word 2)
-      → record { form = form; lab = word 3; pos = word 4; neg = word 5; creates = word 6; risk = eqb (word 7) 1 } ≡ templateIn row X
+  -- As the code makes it of its words.
+  abbrev made : Form → Template
+  made form = record { form = form; lab = word 3; pos = word 4; neg = word 5; creates = word 6; risk = eqb (word 7) 1 }
+
+  pub template-whole : (form : Form) → form ≡ formOf (getD row (begins X) 0) (word 1) (word 2) → made form ≡ templateIn row X
   unfolding templateIn templateOf wordAt
-  template-whole form e = λ i.
-      record {
-        form = (e ∙ ap (λ (n : ℕ). formOf n (word 1) (word 2)) (word-first row X)) i;
-        lab = word 3;
-        pos = word 4;
-        neg = word 5;
-        creates = word 6;
-        risk = eqb (word 7) 1;
-      }
+  template-whole form e = ap made (e ∙ ap (λ (n : ℕ). formOf n (word 1) (word 2)) (word-first row X))
 
   module _ (e : isTemplate (wordAt row X) ≡ true) where
     rest : (leb (word 1) 255 && (leb (word 2) 255 && leb (word 7) 1)) ≡ true

@@ -14,12 +14,15 @@ use Rattle.lists.specs.Numbers.{every}
 use Rattle.lists.proofs.Every.{every-of}
 use Rattle.lists.proofs.Tests.{lt-or-le, and-of}
 use Rattle.lists.proofs.Tabulate.{tabulate-ext, tabulate-getD}
+use Rattle.lists.proofs.Length.{getD-same}
 use Rattle.plan.specs.declared.Form.{Form}
 use Rattle.plan.specs.declared.Form.the-variants.{End, Go, Either, Both}
 use Rattle.plan.specs.declared.Template.{Template}
 use Rattle.plan.specs.declared.Plan.{Plan}
-use Rattle.plan.specs.Plan.{blank, at, successors, Among, Successor}
+use Rattle.plan.specs.Plan.{blank, at, masks, successors, Among, Successor}
 use Rattle.plan.specs.Range.{InRange}
+use Rattle.plan.proofs.Fitting.{successor-below}
+use Rattle.text.specs.Reading.{noPlan}
 use Rattle.planrow.specs.Row.{countIn, wordAt, formOf, templateOf, isTemplate, templateIn, isPlan, planIn, planOfRow}
 use Rattle.planrow.specs.Row.{formNumber, firstOf, secondOf, wordsOf, rowOfPlan}
 use Rattle.planrow.proofs.Reading.{template-ext, is-template-ext, row-long}
@@ -69,7 +72,7 @@ abbrev reader : Template → ℕ → ℕ
 reader t k = getD (wordsOf t) k 0
 
 template-back : (t : Template) → templateOf (reader t) ≡ t
-unfolding templateOf wordsOf
+unfolding templateOf wordsOf masks
 template-back t = λ i.
     record {
       form = form-back (t .form) i;
@@ -81,7 +84,7 @@ template-back t = λ i.
     }
 
 template-low : (t : Template) → ((Y : ℕ) → Among Y (successors (t .form)) → Y < 64) → isTemplate (reader t) ≡ true
-unfolding isTemplate wordsOf
+unfolding isTemplate wordsOf masks
 template-low t near =
     and-of _ _ (number-low (t .form))
     (and-of _ _ (first-low (t .form) near) (and-of _ _ (second-low (t .form) near) (risk-low (t .risk))))
@@ -139,9 +142,14 @@ module _ (plan : Plan) (few : plan .count ≤ 64) (near : (X Y : ℕ) → X < pl
       ap (λ (b : Bool). cond b (some (planIn (rowOfPlan plan))) none) (row-plan plan few near)
       ∙ ap some (same-plan plan few unused sized)
 
--- So does that of every plan that was read.
-pub round-trip : (plan : Plan) → InRange plan → length (plan .templates) ≡ 64 → planOfRow (rowOfPlan plan) ≡ some plan
-round-trip plan range sized = row-means plan (range .templates) near (range .unused) sized
+-- So does that of every plan that was read,
+pub round-trip : (plan : Plan) → InRange plan → planOfRow (rowOfPlan plan) ≡ some plan
+round-trip plan range = row-means plan (range .templates) near (range .unused) (range .places)
   where
     near : (X Y : ℕ) → X < plan .count → Successor plan X Y → Y < 64
-    near X Y h s = let k = range .successors X Y s in let n = range .templates in omega arith
+    near X Y h s = let k = successor-below plan range X Y s in let n = range .templates in omega arith
+
+-- and that of the plan that a refused text hands back.
+pub none-means : planOfRow (rowOfPlan noPlan) ≡ some noPlan
+unfolding at
+none-means = row-means noPlan (omega arith) (λ X Y h s. omega arith) (λ X h. getD-same Template 64 X blank) refl

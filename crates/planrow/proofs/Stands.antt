@@ -3,12 +3,11 @@ use Prim.Native.Nat.{ℕ, _≤_, _<_}
 use mathlib.Core.Path.{_≡_, refl, sym, _∙_, subst}
 use mathlib.Core.Bool.{Bool, true, false}
 use native.Mathlib.Omega.{arith}
-use lib.Dec.{ltb}
-use borrow.Author.Tests.{ltb-true}
 use Rattle.plan.specs.declared.Plan.{Plan}
-use Rattle.plan.specs.Plan.{at, successors, Successor}
+use Rattle.plan.specs.Plan.{at, Successor}
+use Rattle.plan.proofs.Fitting.{successor-fits}
 use Rattle.machine.specs.Machine.{planFits}
-use Rattle.machine.proofs.Templates.{among-all, successors-fit, fitting-count}
+use Rattle.machine.proofs.Templates.{fitting-count, template-fits}
 use Rattle.machine.proofs.Alike.{Alike, fits-alike}
 use Rattle.planrow.specs.Row.{isPlan, rowOfPlan}
 use Rattle.planrow.specs.Lookup.{planFor}
@@ -25,7 +24,7 @@ module _ (plan : Plan) where
     where
       near : (X Y : ℕ) → X < plan .count → Successor plan X Y → Y < 64
       near X Y h s =
-          let l : Y < plan .count = ltb-true Y (plan .count) (among-all (λ Y. ltb Y (plan .count)) (successors (at plan X .form)) (successors-fit plan e X h) Y s) in
+          let l = successor-fits (plan .count) (plan .identifiers) (at plan X) (template-fits plan e X h) Y s in
           let f = fitting-count plan e in
           omega arith
 

@@ -3,7 +3,7 @@ use Prim.Native.Nat.{ℕ, zero, suc, _+_, _-_, _*_, _/_, min, _≤_, _<_}
 use mathlib.Core.Path.{_≡_, refl, sym, ap, ap₂, _∙_}
 use mathlib.Core.Bool.{Bool, true, false, cond}
 use mathlib.Core.Logic.{⊎-elim}
-use mathlib.Core.List.{List, [], _∷_}
+use mathlib.Core.List.{List, [], _∷_, _++_}
 use native.Mathlib.Omega.{arith}
 use lib.ListN.{length, getD, set, replicate, length-set, length-replicate}
 use lib.Seq.{getD-set-other, ext-getD}
@@ -13,7 +13,7 @@ use Rattle.lists.proofs.Length.{getD-same}
 use Rattle.lists.specs.Writes.{written}
 use Rattle.lists.proofs.Written.{written-in, written-below, written-above}
 use Rattle.plan.specs.declared.{Template.{Template}, Plan.{Plan}}
-use Rattle.plan.specs.Plan.{at}
+use Rattle.plan.specs.Plan.{at, masks}
 use Rattle.planrow.specs.declared.FormWords.{FormWords}
 use Rattle.planrow.specs.Row.{header, width, words, begins, formNumber, firstOf, secondOf, wordsOf, wordIn, headerOf, rowOfPlan}
 use Rattle.planrow.proofs.Places.{word-here, word-past, length-row, row-front, row-behind}
@@ -21,8 +21,8 @@ use Rattle.planrow.proofs.Places.{word-here, word-past, length-row, row
 -- Of a template the code has the form's three words and risk as a number.
 pub words-whole : (t : Template) (w : FormWords) → w .number ≡ formNumber (t .form) → w .first ≡ firstOf (t .form) → w .second ≡ secondOf (t .form)
     → (w .number ∷ w .first ∷ w .second ∷ t .lab ∷ t .pos ∷ t .neg ∷ t .creates ∷ boolByte (t .risk) ∷ []) ≡ wordsOf t
-unfolding wordsOf
-words-whole t w a b c = λ i. a i ∷ b i ∷ c i ∷ t .lab ∷ t .pos ∷ t .neg ∷ t .creates ∷ risk (t .risk) i ∷ []
+unfolding wordsOf masks
+words-whole t w a b c = λ i. a i ∷ b i ∷ c i ∷ (masks t ++ (risk (t .risk) i ∷ []))
   where
     risk : (b : Bool) → boolByte b ≡ cond b 1 0
     risk true = refl

@@ -9,7 +9,7 @@ use lib.Dec.{eqb, leb, ltb}
 use lib.ListN.{getD}
 use Rattle.lists.specs.Numbers.{every, tabulate}
 use Rattle.plan.specs.declared.{Form.{Form, the-variants.{End, Go, Either, Both}}, Template.{Template}, Plan.{Plan}}
-use Rattle.plan.specs.Plan.{blank, at}
+use Rattle.plan.specs.Plan.{blank, at, masks}
 
 -- ---- how a row lies
 
@@ -102,16 +102,7 @@ secondOf (Either Y Z) = Z
 secondOf (Both Y Z) = Z
 
 unfoldable pub wordsOf : Template → List ℕ
-wordsOf t =
-    formNumber (t .form)
-    ∷ firstOf (t .form)
-    ∷ secondOf (t .form)
-    ∷ t .lab
-    ∷ t .pos
-    ∷ t .neg
-    ∷ t .creates
-    ∷ cond (t .risk) 1 0
-    ∷ []
+wordsOf t = formNumber (t .form) ∷ firstOf (t .form) ∷ secondOf (t .form) ∷ (masks t ++ (cond (t .risk) 1 0 ∷ []))
 
 -- Word j of its templates; past N each is 0.
 unfoldable pub wordIn : Plan → ℕ → ℕ

@@ -7,8 +7,10 @@ ghost use mathlib.Core.Bool.{true, _&&_, _||_};
 ghost use Prim.Native.Nat.{ℕ, _+_, _<_, _≤_, _^_, min};
 ghost use lib.Dec.{leb, ltb};
 ghost use lib.ListN.{getD, length};
+ghost use Rattle.lists.specs.Numbers.{all};
 ghost use Rattle.lists.specs.Writes.{written};
-ghost use Rattle.machine.specs.Machine.{templateFits, planFits};
+ghost use Rattle.plan.specs.Plan.{masks, templateFits};
+ghost use Rattle.machine.specs.Machine.{planFits};
 ghost use Rattle.planrow.specs.Row.{width, countIn, identifiersIn, wordAt, formOf, isTemplate, templateIn, isPlan};
 ghost use Rattle.planrow.specs.Row.{formNumber, firstOf, secondOf, wordsOf, rowOfPlan};
 ghost use Rattle.planrow.specs.Lookup.{planFor, templateAt};
@@ -16,9 +18,14 @@ ghost use Rattle.planrow.specs.Lookup.{planFor, templateAt};
 // The words of the header, those of a template, and all of them.
 pub const HEADER: usize = 2;
 
-pub const WIDTH: usize = 8;
+pub const WIDTH: usize = RISK + 1;
 
 pub const WORDS: usize = HEADER + WIDTH * 64;
+
+// Which of a template's words is its first mask, and which its risk.
+const MASK: usize = 3;
+
+const RISK: usize = MASK + plan::MASKS;
 
 // A form's three words.
 struct FormWords {
@@ -47,7 +54,7 @@ fn is_template(row: &[u32; WORDS], x: usize) -> bool
     ensures { λ r. ⌜ r ≡ isTemplate (wordAt (now (row .entry)) x) ⌝ }
 {
     let at = HEADER + WIDTH * x;
-    (row[at] <= 3) & ((row[at + 1] <= 255) & ((row[at + 2] <= 255) & (row[at + 7] <= 1)))
+    (row[at] <= 3) & ((row[at + 1] <= 255) & ((row[at + 2] <= 255) & (row[at + RISK] <= 1)))
 }
 
 // Whether the row means a plan.
@@ -95,7 +102,7 @@ fn template_in(row: &[u32; WORDS], x: usize) -> Template
         pos: row[at + 4],
         neg: row[at + 5],
         creates: row[at + 6],
-        risk: row[at + 7] == 1,
+        risk: row[at + RISK] == 1,
     }
 }
 
@@ -132,6 +139,21 @@ fn is_mask(mask: u32, m: u32) -> bool
     (mask as u64) < (1u64 << m)
 }
 
+// Whether the masks of template x are over m identifiers: joined they are compared once.
+fn are_masks(row: &[u32; WORDS], x: usize, m: u32) -> bool
+    requires { ⌜ (x < 64) × (m ≤ 32) ⌝ }
+    ensures { λ r. ⌜ r ≡ all (λ mask. ltb mask (2 ^ m)) (masks (templateIn (now (row .entry)) x)) ⌝ }
+{
+    let first = HEADER + WIDTH * x + MASK;
+    let mut joined: u32 = 0;
+    let mut k: usize = 0;
+    while k < plan::MASKS {
+        joined = joined | row[first + k];
+        k += 1;
+    }
+    is_mask(joined, m)
+}
+
 // Whether the words of template x stand for one that fits n templates and m identifiers.
 fn template_fits(row: &[u32; WORDS], x: usize, n: u32, m: u32) -> bool
     requires { ⌜ (x < 64) × (n ≤ 64) × (m ≤ 32) ⌝ }
@@ -139,10 +161,10 @@ fn template_fits(row: &[u32; WORDS], x: usize, n: u32, m: u32) -> bool
 {
     let at = HEADER + WIDTH * x;
     let form = row[at];
-    let masks = row[at + 3] | (row[at + 4] | (row[at + 5] | row[at + 6]));
     (form <= 3)
         & (successor_fits(row[at + 1], form < 1, n)
-            & (successor_fits(row[at + 2], form < 2, n) & ((row[at + 7] <= 1) & is_mask(masks, m))))
+            & (successor_fits(row[at + 2], form < 2, n)
+                & ((row[at + RISK] <= 1) & are_masks(row, x, m))))
 }
 
 // Document 01, 20: "a count [..] passed", and the plan's part of the rest. A row that means no plan has none that fits.
@@ -236,7 +258,7 @@ fn put_words(row: &mut [u32], at: usize, words: [u32; WIDTH])
 
 // The row of a plan.
 pub fn row_of(plan: Plan) -> [u32; WORDS]
-    ensures { λ r. ⌜ (r ≡ rowOfPlan plan) × (length (plan .templates) ≡ 64) ⌝ }
+    ensures { λ r. ⌜ r ≡ rowOfPlan plan ⌝ }
 {
     let mut out = [0u32; WORDS];
     out[0] = count_word(plan.count);

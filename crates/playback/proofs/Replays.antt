@@ -49,25 +49,23 @@ module _ (planText policyText words before : List ℕ) (v : Verdict) (s : State)
   begun a = w .1 ∙ ap (λ (v : Verdict). startOn v (readPlan planText .plan)) (sym (w .0) ∙ a)
 
   -- The row of the started plan stands for it.
-  same-plan : v ≡ Accepted → (row : List ℕ) → row ≡ rowOfPlan (s .plan) → length (s .plan .templates) ≡ 64 → planFor row ≡ s .plan
+  same-plan : v ≡ Accepted → (row : List ℕ) → row ≡ rowOfPlan (s .plan) → planFor row ≡ s .plan
   unfolding start machineOf machineFrom
-  same-plan a row er sized =
-      ap planFor (er ∙ ap rowOfPlan read)
-      ∙ accepted-row planText policyText (sym (w .0) ∙ a) (subst (λ (p : Plan). length (p .templates) ≡ 64) read sized) ∙ sym read
+  same-plan a row er = ap planFor (er ∙ ap rowOfPlan read) ∙ accepted-row planText policyText (sym (w .0) ∙ a) ∙ sym read
     where
       read : s .plan ≡ readPlan planText .plan
       read = ap (λ (m : Machine). m .plan) (begun a)
 
-  pub replays-so : not g ≡ false → (row : List ℕ) → row ≡ rowOfPlan (s .plan) → length (s .plan .templates) ≡ 64
+  pub replays-so : not g ≡ false → (row : List ℕ) → row ≡ rowOfPlan (s .plan)
       → (n : ℕ) → n ≡ min (length words / 3) (length before) → (next live : ℕ) (d : Cells) (after : List ℕ)
       → Played (machineFrom (planFor row) (s .next) (s .live) (cellsOf s)) n words before (machineFrom (planFor row) next live d) after
       → Replays planText policyText words before v n (rebuilt s next live d) after
   unfolding playable machineOf
-  replays-so h row er sized n en next live d after p =
+  replays-so h row er n en next live d after p =
       let a : v ≡ Accepted = is-accepted v (sym eg ∙ not-false g h) in
       let q : Played (machineOf s) n words before (machineOf (rebuilt s next live d)) after =
       subst (λ (plan : Plan). Played (machineFrom plan (s .next) (s .live) (cellsOf s)) n words before (machineFrom plan next live d) after)
-      (same-plan a row er sized) p in
+      (same-plan a row er) p in
       record {
         judged = w .0;
         counted = en ∙ ap (λ (v : Verdict). playable v (length words) (length before)) (sym a);

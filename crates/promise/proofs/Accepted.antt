@@ -22,7 +22,7 @@ use Rattle.rules.specs.Rules.{Kept, Each, RowHolds, EveryRule, Serves}
 use Rattle.rules.specs.Judge.{EdgeRule, stepRules}
 use Rattle.rules.proofs.Edges.{step-rows}
 use Rattle.machine.specs.Machine.{mayBecome}
-use Rattle.machine.proofs.Templates.{among-all, all-among}
+use Rattle.plan.proofs.Among.{among-all, all-among}
 
 -- ---- rules 12, 13 and 16
 

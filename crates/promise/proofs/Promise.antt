@@ -8,7 +8,7 @@ use Rattle.plan.specs.declared.{Plan.{Plan}, Kind.{Kind}, Policy.{Policy}}
 use Rattle.plan.specs.Plan.{assertionAt}
 use Rattle.plan.specs.Range.{InRange, Clear, PolicyInRange}
 use Rattle.text.specs.Reading.{readPlan, readPolicy}
-use Rattle.reader.proofs.Range.{plan-in-range, policy-in-range}
+use Rattle.reader.proofs.{Range.{plan-in-range}, PolicyRange.{policy-in-range}}
 use Rattle.rules.specs.Rules.{Asked, EveryRule}
 use Rattle.verdict.proofs.Exact.{accepted-exactly}
 use Rattle.machine.specs.Machine.{Limits, boxLimits, Call}

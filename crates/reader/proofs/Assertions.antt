@@ -31,10 +31,10 @@ list-one N K i row a c d k e =
     ∙ sym (ap (λ (s : Step Assertion). listed N (i + 1) (set row i (s .value)) (K - (i + 1)) (s .next)) e)
 
 module _ (text : List ℕ) (N K : ℕ) where
-  pub turn-first : (at : Position) → Turn text N K (cursorOf text at) (replicate 32 blankAssertion) at 0
-  turn-first at = record {
+  pub turn-first : (at : Position) (a : Assertion) → a ≡ blankAssertion → Turn text N K (cursorOf text at) (replicate 32 a) at 0
+  turn-first at a b = record {
     most = omega arith;
-    left = let e : K ≡ K - 0 = omega arith in ap (λ (more : ℕ). listed N 0 (replicate 32 blankAssertion) more (cursorOf text at)) e;
+    left = let e : K ≡ K - 0 = omega arith in ap₂ (λ (a : Assertion) (more : ℕ). listed N 0 (replicate 32 a) more (cursorOf text at)) (sym b) e;
     row-length = refl;
   }
 

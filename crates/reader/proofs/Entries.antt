@@ -34,11 +34,11 @@ fill-one N M stood i row n t c d k e =
     ∙ sym (ap (λ (s : Step Entry). filled N M (s .value .name ∷ stood) (i + 1) (set row i (s .value .template)) (N - (i + 1)) (s .next)) e)
 
 module _ (text : List ℕ) (N M : ℕ) where
-  pub turn-first : (at : Position) → Turn text N M (cursorOf text at) (replicate 64 blank) (replicate 64 0) (replicate 64 0) at 0
+  pub turn-first : (at : Position) (t : Template) → t ≡ blank → Turn text N M (cursorOf text at) (replicate 64 t) (replicate 64 0) (replicate 64 0) at 0
   unfolding namesOf
-  turn-first at = record {
+  turn-first at t b = record {
     most = omega arith;
-    left = let e : N ≡ N - 0 = omega arith in ap (λ (more : ℕ). filled N M [] 0 (replicate 64 blank) more (cursorOf text at)) e;
+    left = let e : N ≡ N - 0 = omega arith in ap₂ (λ (t : Template) (more : ℕ). filled N M [] 0 (replicate 64 t) more (cursorOf text at)) (sym b) e;
     templates-length = refl;
     starts-length = refl;
     ends-length = refl;

@@ -1,6 +1,6 @@
 -- Lines read one after the other are the definition's lines: each reader's answer put into the place of its line.
 use Prim.Native.Nat.{ℕ, _≤_}
-use mathlib.Core.Path.{_≡_, refl, ap, _∙_}
+use mathlib.Core.Path.{_≡_, ap, _∙_}
 use mathlib.Core.Bool.{Bool, false}
 use mathlib.Core.List.{List, []}
 use Rattle.plan.specs.declared.Form.{Form}
@@ -12,55 +12,27 @@ use Rattle.plan.specs.declared.Kind.{Kind}
 use Rattle.plan.specs.declared.Kind.the-variants.{Secrecy}
 use Rattle.plan.specs.declared.Assertion.{Assertion}
 use Rattle.plan.specs.declared.Policy.{Policy}
-use Rattle.plan.specs.Plan.{blank, blankAssertion}
+use Rattle.plan.specs.Plan.{blank, blankAssertion, masks}
 use Rattle.scan.specs.Bytes.{bytes}
-use Rattle.field.specs.Fields.{number, templateNumber, mask, name, form, risk, kind, declass}
-use Rattle.text.specs.Reading.{longest, Cursor, on, Step, Reader, _>>=_, give, line, Entry, entry, plan, assertion, policy}
+use Rattle.field.specs.Fields.{number, templateNumber, name, form, risk, kind, declass}
+use Rattle.text.specs.Reading.{longest, on, Step, Entry, entry, plan, assertion, policy}
 use Rattle.text.specs.Cursors.{cursorOf, stepOf, keyed}
 use Rattle.text.specs.declared.Position.{Position}
 use Rattle.text.specs.declared.Position.the-variants.{On}
 use Rattle.text.proofs.Lines.{keyed-line, first-cursor}
-use Rattle.reader.specs.Rows.{Masks, masks, filled, listed}
+use Rattle.reader.specs.Rows.{maskKeys, maskLines, masked, entryLines, filled, listed}
+use Rattle.reader.proofs.Masks.{entry-same}
 use Rattle.reader.proofs.Entries.{filled-all}
 use Rattle.reader.proofs.Assertions.{listed-all}
 
-module _ (M : ℕ) (text : List ℕ) (p₀ p₁ p₂ p₃ p₄ : Position) (l p g c : ℕ) where
-  pub masks-gathered : stepOf text l p₁ ≡ keyed 0 (bytes "lab=") (mask 8 M) (cursorOf text p₀)
-      → stepOf text p p₂ ≡ keyed 0 (bytes "pos=") (mask 8 M) (cursorOf text p₁)
-      → stepOf text g p₃ ≡ keyed 0 (bytes "neg=") (mask 8 M) (cursorOf text p₂)
-      → stepOf text c p₄ ≡ keyed 0 (bytes "creates=") (mask 8 M) (cursorOf text p₃)
-      → stepOf {A = Masks} text (record { lab = l; pos = p; neg = g; creates = c }) p₄ ≡ masks M (cursorOf text p₀)
-  unfolding masks
-  masks-gathered a₁ a₂ a₃ a₄ =
-      rw (
-        ← (a₁ ∙ keyed-line 0 "lab=" (mask 8 M) (cursorOf text p₀)),
-        ← (a₂ ∙ keyed-line 0 "pos=" (mask 8 M) (cursorOf text p₁)),
-        ← (a₃ ∙ keyed-line 0 "neg=" (mask 8 M) (cursorOf text p₂)),
-        ← (a₄ ∙ keyed-line 0 "creates=" (mask 8 M) (cursorOf text p₃)),
-      )
-
--- An entry, its four mask lines taken as one.
-unfoldable entry-lines : ℕ → ℕ → List (List ℕ) → Reader Entry
-entry-lines N M stood = do
-  n ← line [] "name=" (name stood)
-  f ← line End "form=" (form N)
-  m ← masks M
-  r ← line false "risk=" risk
-  give (record { name = n; template = record { form = f; lab = m .lab; pos = m .pos; neg = m .neg; creates = m .creates; risk = r } })
-
-entry-same : (N M : ℕ) (stood : List (List ℕ)) (c : Cursor) → entry-lines N M stood c ≡ entry N M stood c
-unfolding entry entry-lines masks
-entry-same N M stood c = refl
-
-module _ (N M : ℕ) (stood : List (List ℕ)) (text : List ℕ) (p₀ p₁ p₂ p₃ p₄ : Position)
-    (n : List ℕ) (f : Form) (l p g c : ℕ) (r : Bool) where
+-- The template has its form and its masks before the line of its risk is read.
+module _ (N M : ℕ) (stood : List (List ℕ)) (text : List ℕ) (p₀ p₁ p₂ p₃ p₄ : Position) (n : List ℕ) (t : Template) (r : Bool) where
   lines-gathered : stepOf text n p₁ ≡ keyed [] (bytes "name=") (name stood) (cursorOf text p₀)
-      → stepOf text f p₂ ≡ keyed End (bytes "form=") (form N) (cursorOf text p₁)
-      → stepOf {A = Masks} text (record { lab = l; pos = p; neg = g; creates = c }) p₃ ≡ masks M (cursorOf text p₂)
+      → stepOf text (t .form) p₂ ≡ keyed End (bytes "form=") (form N) (cursorOf text p₁)
+      → stepOf text (masks t) p₃ ≡ maskLines M maskKeys (cursorOf text p₂)
       → stepOf text r p₄ ≡ keyed false (bytes "risk=") risk (cursorOf text p₃)
-      → stepOf {A = Entry} text (record { name = n; template = record { form = f; lab = l; pos = p; neg = g; creates = c; risk = r } }) p₄
-      ≡ entry-lines N M stood (cursorOf text p₀)
-  unfolding entry-lines
+      → stepOf {A = Entry} text (record { name = n; template = masked (t .form) (masks t) r }) p₄ ≡ entryLines N M stood (cursorOf text p₀)
+  unfolding entryLines
   lines-gathered a₁ a₂ a₃ a₄ =
       rw (
         ← (a₁ ∙ keyed-line [] "name=" (name stood) (cursorOf text p₀)),
@@ -69,13 +41,14 @@ module _ (N M : ℕ) (stood : List (List ℕ)) (text : List ℕ) (p₀ p₁ p₂
         ← (a₄ ∙ keyed-line false "risk=" risk (cursorOf text p₃)),
       )
 
-  pub entry-gathered : stepOf text n p₁ ≡ keyed [] (bytes "name=") (name stood) (cursorOf text p₀)
+  pub entry-gathered : (f : Form) → stepOf text n p₁ ≡ keyed [] (bytes "name=") (name stood) (cursorOf text p₀)
       → stepOf text f p₂ ≡ keyed End (bytes "form=") (form N) (cursorOf text p₁)
-      → stepOf {A = Masks} text (record { lab = l; pos = p; neg = g; creates = c }) p₃ ≡ masks M (cursorOf text p₂)
+      → stepOf text (masks t) p₃ ≡ maskLines M maskKeys (cursorOf text p₂)
+      → t .form ≡ f
       → stepOf text r p₄ ≡ keyed false (bytes "risk=") risk (cursorOf text p₃)
-      → stepOf {A = Entry} text (record { name = n; template = record { form = f; lab = l; pos = p; neg = g; creates = c; risk = r } }) p₄
-      ≡ entry N M stood (cursorOf text p₀)
-  entry-gathered a₁ a₂ a₃ a₄ = lines-gathered a₁ a₂ a₃ a₄ ∙ entry-same N M stood (cursorOf text p₀)
+      → stepOf {A = Entry} text (record { name = n; template = masked (t .form) (masks t) r }) p₄ ≡ entry N M stood (cursorOf text p₀)
+  entry-gathered f a₁ a₂ a₃ same a₄ =
+      lines-gathered a₁ (ap (λ (f : Form). stepOf text f p₂) same ∙ a₂) a₃ a₄ ∙ entry-same N M stood (cursorOf text p₀)
 
 module _ (text : List ℕ) (p₁ p₂ p₃ : Position) (N M : ℕ) (ts : List Template) where
   pub plan-gathered : stepOf text N p₁ ≡ keyed 0 (bytes "templates=") (number 3 1 65) (cursorOf text (On 0 1))

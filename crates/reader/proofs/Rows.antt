@@ -1,10 +1,10 @@
 -- A row that is filled from its start, with blank places after what it holds.
-use Prim.Native.Nat.{ℕ, zero, suc, _+_, _≤_, _<_}
+use Prim.Native.Nat.{ℕ, zero, suc, _+_, _-_, _≤_, _<_}
 use mathlib.Core.Path.{_≡_, refl, sym, ap, _∙_}
 use mathlib.Core.List.{List, [], _∷_, _++_, append-assoc}
 use native.Mathlib.Nat.{suc-add}
 use native.Mathlib.Omega.{arith}
-use lib.ListN.{length, getD, set, replicate, length-append}
+use lib.ListN.{length, getD, set, replicate, length-append, length-replicate}
 use lib.Seq.{set-append-seam}
 
 module _ {A : Type 0} where
@@ -19,12 +19,11 @@ module _ {A : Type 0} where
       ∙ set-append-seam front d (replicate (more + rest) d) a
       ∙ sym (append-assoc front (a ∷ []) (replicate (more + rest) d))
 
-  -- What stands at a place of the row.
-  pub row-in : (l r : List A) (X : ℕ) (d : A) → X < length l → getD (l ++ r) X d ≡ getD l X d
-  row-in [] r X d h = absurd (omega arith)
-  row-in (x ∷ l) r zero d h = refl
-  row-in (x ∷ l) r (suc X) d h = row-in l r X d (omega arith)
+  -- The blank places fill it to its size,
+  pub row-full : (l : List A) (k n : ℕ) (d : A) → length l ≡ k → k ≤ n → length (l ++ replicate (n - k) d) ≡ n
+  row-full l k n d e h = omega (arith, length-append l (replicate (n - k) d), length-replicate {A = A} (n - k) d)
 
+  -- and at them stands what is blank.
   pub row-past : (l : List A) (k X : ℕ) (d : A) → length l ≤ X → getD (l ++ replicate k d) X d ≡ d
   row-past [] zero X d h = refl
   row-past [] (suc k) zero d h = refl

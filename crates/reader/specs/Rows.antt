@@ -1,36 +1,41 @@
--- What the code of crate reader gives on its way, on the text that it is lent: an entry, and rows filled one by one.
+-- What the code of crate reader gives on its way, on the text that it is lent: an entry, its mask lines, and rows filled
+-- one by one.
 -- Not to be believed: the contracts of read_plan and read_policy do not name them.
-use Prim.Native.Nat.{ℕ, zero, suc, _+_}
-use mathlib.Core.List.{List, _∷_}
-use lib.ListN.{set}
-use Rattle.plan.specs.declared.Template.{Template}
-use Rattle.plan.specs.declared.Assertion.{Assertion}
-use Rattle.field.specs.Fields.{mask}
+use Prim.Native.{Nat.{ℕ, zero, suc, _+_}, String.{String}}
+use mathlib.Core.{Bool.{Bool, false}, List.{List, [], _∷_}}
+use lib.ListN.{getD, set}
+use Rattle.plan.specs.declared.{Form.{Form, the-variants.{End}}, Template.{Template}, Assertion.{Assertion}}
+use Rattle.field.specs.Fields.{mask, name, form, risk}
 use Rattle.text.specs.Reading.{Reader, _>>=_, give, line, Entry, entry, assertion}
 use Rattle.text.specs.Cursors.{part}
-use Rattle.reader.specs.declared.MasksRead.{MasksRead}
 use Rattle.reader.specs.declared.EntryRead.{EntryRead}
 
 abbrev pub entryOf : List ℕ → EntryRead → Entry
 entryOf text r = record { name = part (r .start) (r .end) text; template = r .template }
 
--- The four mask lines of a template.
-pub record Masks : Type 0 where
-  pub lab : ℕ
-  pub pos : ℕ
-  pub neg : ℕ
-  pub creates : ℕ
+-- The keys of a template's mask lines, and a line for each of them.
+abbrev pub maskKeys : List String
+maskKeys = "lab=" ∷ "pos=" ∷ "neg=" ∷ "creates=" ∷ []
 
-unfoldable pub masks : ℕ → Reader Masks
-masks M = do
-  l ← line 0 "lab=" (mask 8 M)
-  p ← line 0 "pos=" (mask 8 M)
-  g ← line 0 "neg=" (mask 8 M)
-  c ← line 0 "creates=" (mask 8 M)
-  give (record { lab = l; pos = p; neg = g; creates = c })
+unfoldable pub maskLines : ℕ → List String → Reader (List ℕ)
+maskLines M [] = give []
+maskLines M (key ∷ keys) = do
+  m ← line 0 key (mask 8 M)
+  rest ← maskLines M keys
+  give (m ∷ rest)
 
-abbrev pub masksOf : MasksRead → Masks
-masksOf r = record { lab = r .lab; pos = r .pos; neg = r .neg; creates = r .creates }
+-- The template of that form, with those masks.
+abbrev pub masked : Form → List ℕ → Bool → Template
+masked f ms r = record { form = f; lab = getD ms 0 0; pos = getD ms 1 0; neg = getD ms 2 0; creates = getD ms 3 0; risk = r }
+
+-- An entry, its mask lines taken as one.
+unfoldable pub entryLines : ℕ → ℕ → List (List ℕ) → Reader Entry
+entryLines N M stood = do
+  n ← line [] "name=" (name stood)
+  f ← line End "form=" (form N)
+  ms ← maskLines M maskKeys
+  r ← line false "risk=" risk
+  give (record { name = n; template = masked f ms r })
 
 -- So many templates more, each put into the row at its place.
 unfoldable pub filled : ℕ → ℕ → List (List ℕ) → ℕ → List Template → ℕ → Reader (List Template)

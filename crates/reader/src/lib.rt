@@ -1,7 +1,6 @@
 // Reading the plan and the policy, line by line, with no copy of the text (document 01, "The two texts" and "Reading").
 use plan::Assertion;
 use plan::Form;
-use plan::Kind;
 use plan::Plan;
 use plan::Policy;
 use plan::Template;
@@ -14,25 +13,23 @@ ghost use mathlib.Core.Path.{_≡_};
 ghost use Prim.Native.Nat.{_≤_};
 ghost use mathlib.Core.List.{[]};
 ghost use lib.ListN.{length, replicate};
-ghost use Rattle.plan.specs.Plan.{blank, blankAssertion};
+ghost use Rattle.plan.specs.Plan.{blank, blankAssertion, masks};
 ghost use Rattle.text.specs.Reading.{on, longest, entry, plan as planText, assertion, policy as policyText, closed, readPlan, readPolicy, noPlan, noPolicy};
 ghost use Rattle.text.specs.Cursors.{cursorOf, stepOf, namesOf};
-ghost use Rattle.reader.specs.Rows.{masks, masksOf, entryOf, filled, listed};
+ghost use Rattle.reader.specs.Rows.{maskKeys, maskLines, entryOf, filled, listed};
 
 // The number of the refusal of a text that is too long.
 const TOO_LONG: u8 = 1;
 
 pub struct MasksRead {
-    pub lab: u32,
-    pub pos: u32,
-    pub neg: u32,
-    pub creates: u32,
+    pub template: Template,
     pub next: Position,
 }
 
-// The four mask lines of a template of a plan with m identifiers.
-fn read_masks(text: &[u8], from: Position, m: u8) -> MasksRead
-    ensures { λ r. ⌜ stepOf (now (text .entry)) (masksOf r) (r .next) ≡ masks m (cursorOf (now (text .entry)) from) ⌝ }
+// The mask lines of a template of that form, of a plan with m identifiers. Whether it is at risk the line after them says.
+fn read_masks(text: &[u8], from: Position, form: Form, m: u8) -> MasksRead
+    ensures { λ r. ⌜ stepOf (now (text .entry)) (masks (r .template)) (r .next) ≡ maskLines m maskKeys (cursorOf (now (text .entry)) from) ⌝ }
+    ensures formed { λ r. ⌜ r .template .form ≡ form ⌝ }
 {
     let lab = text::mask_line(text, from, b"lab=", m);
     let after_lab = lab.next;
@@ -42,13 +39,15 @@ fn read_masks(text: &[u8], from: Position, m: u8) -> MasksRead
     let after_neg = neg.next;
     let creates = text::mask_line(text, after_neg, b"creates=", m);
     let next = creates.next;
-    MasksRead {
+    let template = Template {
+        form,
         lab: lab.value,
         pos: pos.value,
         neg: neg.value,
         creates: creates.value,
-        next,
-    }
+        risk: false,
+    };
+    MasksRead { template, next }
 }
 
 // Where the name of a template stands, the template, and the position after its lines.
@@ -76,19 +75,13 @@ fn read_entry(
     let after_name = name.next;
     let form = text::form_line(text, after_name, n);
     let after_form = form.next;
-    let masks = read_masks(text, after_form, m);
-    let after_masks = masks.next;
+    let f = form.value;
+    let masked = read_masks(text, after_form, f, m);
+    let after_masks = masked.next;
     let risk = text::risk_line(text, after_masks);
     let next = risk.next;
-    let f = form.value;
-    let template = Template {
-        form: f,
-        lab: masks.lab,
-        pos: masks.pos,
-        neg: masks.neg,
-        creates: masks.creates,
-        risk: risk.value,
-    };
+    let mut template = masked.template;
+    template.risk = risk.value;
     EntryRead {
         start: name.start,
         end: name.end,
@@ -107,14 +100,8 @@ fn read_entries(text: &[u8], from: Position, n: u8, m: u8) -> EntriesRead
     requires { ⌜ n ≤ 64 ⌝ }
     ensures { λ r. ⌜ stepOf (now (text .entry)) (r .templates) (r .next) ≡ filled n m [] 0 (replicate 64 blank) n (cursorOf (now (text .entry)) from) ⌝ }
 {
-    let mut templates = [Template {
-        form: Form::End,
-        lab: 0,
-        pos: 0,
-        neg: 0,
-        creates: 0,
-        risk: false,
-    }; 64];
+    let blank = plan::blank_template();
+    let mut templates = [blank; 64];
     let mut starts: [usize; 64] = [0; 64];
     let mut ends: [usize; 64] = [0; 64];
     let mut at = from;
@@ -187,14 +174,8 @@ fn close(text: &[u8], end: Position) -> Reading
 fn no_plan() -> Plan
     ensures { λ r. ⌜ r ≡ noPlan ⌝ }
 {
-    let templates = [Template {
-        form: Form::End,
-        lab: 0,
-        pos: 0,
-        neg: 0,
-        creates: 0,
-        risk: false,
-    }; 64];
+    let blank = plan::blank_template();
+    let templates = [blank; 64];
     Plan {
         count: 0,
         identifiers: 0,
@@ -276,13 +257,8 @@ fn read_assertions(text: &[u8], from: Position, n: u8, k: u8) -> AssertionsRead
     requires { ⌜ k ≤ 32 ⌝ }
     ensures { λ r. ⌜ stepOf (now (text .entry)) (r .assertions) (r .next) ≡ listed n 0 (replicate 32 blankAssertion) k (cursorOf (now (text .entry)) from) ⌝ }
 {
-    let mut assertions = [Assertion {
-        kind: Kind::Secrecy,
-        source: 0,
-        sink: 0,
-        anc: 0,
-        declass: 0,
-    }; 32];
+    let blank = plan::blank_assertion();
+    let mut assertions = [blank; 32];
     let mut at = from;
     let mut i: usize = 0;
     while i < k as usize {
@@ -330,13 +306,8 @@ fn read_policy_lines(text: &[u8], n: u8) -> PolicyLines
 fn no_policy() -> Policy
     ensures { λ r. ⌜ r ≡ noPolicy ⌝ }
 {
-    let assertions = [Assertion {
-        kind: Kind::Secrecy,
-        source: 0,
-        sink: 0,
-        anc: 0,
-        declass: 0,
-    }; 32];
+    let blank = plan::blank_assertion();
+    let assertions = [blank; 32];
     Policy {
         count: 0,
         assertions,

@@ -9,6 +9,7 @@ use native.Mathlib.Nat.{le-trans}
 use Rattle.plan.specs.declared.Plan.{Plan}
 use Rattle.plan.specs.Plan.{Successor}
 use Rattle.plan.specs.Range.{InRange}
+use Rattle.plan.proofs.Fitting.{successor-below}
 use Rattle.route.specs.Route.{Route, alone, onward, Lacks, Holds, RouteLacking}
 
 -- Every successor is a place of the plan's 64.
@@ -16,7 +17,7 @@ abbrev pub Low : Plan → Type 0
 Low plan = (X Y : ℕ) → Successor plan X Y → Y < 64
 
 pub range-low : (plan : Plan) → InRange plan → Low plan
-range-low plan range X Y s = le-trans (range .successors X Y s) (range .templates)
+range-low plan range X Y s = le-trans (successor-below plan range X Y s) (range .templates)
 
 -- Where nothing passes the test, every route lacks it.
 pub lacks-all : (test : ℕ → Bool) → ((X : ℕ) → test X ≡ false) → (route : List ℕ) → Lacks test route

@@ -15,7 +15,7 @@ use Rattle.scan.specs.Bytes.{bytes, before, startsWith}
 use Rattle.scan.proofs.Parts.{rest-of, first-of, drop-take}
 use Rattle.scan.proofs.Steps.{starts-long}
 use Rattle.field.specs.Fields.{Field, is, bad, andThen}
-use Rattle.text.specs.Reading.{longest, Cursor, on, stopped, field, settle, line}
+use Rattle.text.specs.Reading.{longest, Cursor, on, stopped, afterKey, settle, line}
 use Rattle.text.specs.Cursors.{part, stands, cursorOf, stepOf, spanOf, found, opened, settled, after, keyed, openedOf, Within}
 use Rattle.text.specs.declared.Position.{Position}
 use Rattle.text.specs.declared.Position.the-variants.{On, Stopped}
@@ -30,7 +30,7 @@ begins key s = ltb (before 10 s) (length s) && startsWith key (take (before 10 s
 
 -- The definition's `line` is `keyed` with the bytes of its key.
 pub keyed-line : {A : Type 0} (empty : A) (key : String) (read : List ℕ → Field A) (c : Cursor) → keyed empty (bytes key) read c ≡ line empty key read c
-unfolding keyed after opened settled line settle field andThen
+unfolding keyed after opened settled line settle afterKey andThen
 keyed-line {A} empty key read (on text k) = go (begins (bytes key) text) refl
   where
     inner : (x : Field A) → settled empty (drop (before 10 text + 1) text) k x ≡ settle empty text k x
@@ -38,8 +38,8 @@ keyed-line {A} empty key read (on text k) = go (begins (bytes key) text) refl
     inner (bad n) = refl
 
     go : (b : Bool) → begins (bytes key) text ≡ b → keyed empty (bytes key) read (on text k) ≡ line empty key read (on text k)
-    go true e = rw (e, keyed, opened, line, field) (inner (read (drop (length (bytes key)) (take (before 10 text) text))))
-    go false e = rw (e, keyed, opened, line, field)
+    go true e = rw (e, keyed, opened, line, afterKey) (inner (read (drop (length (bytes key)) (take (before 10 text) text))))
+    go false e = rw (e, keyed, opened, line, afterKey)
 keyed-line empty key read (stopped n k) = refl
 
 -- ---- the field of a line

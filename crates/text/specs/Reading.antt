@@ -36,8 +36,8 @@ give v cursor = record { value = v; next = cursor }
 
 -- The rest of the first line after its key, without byte 10: "each line ended by byte 10", "a reader compares each key
 -- and the equals sign byte for byte". 2: the line is missing, has no byte 10 or begins otherwise.
-unfoldable pub field : List ℕ → List ℕ → Field (List ℕ)
-field key text =
+unfoldable pub afterKey : List ℕ → List ℕ → Field (List ℕ)
+afterKey key text =
     cond (ltb (before 10 text) (length text) && startsWith key (take (before 10 text) text))
     (is (drop (length key) (take (before 10 text) text))) (bad 2)
 
@@ -48,7 +48,7 @@ settle empty text k (bad n) = record { value = empty; next = stopped n k }
 
 -- One line: its key, and its field read by the given reader of fields. What comes of no line is empty.
 unfoldable pub line : {A : Type 0} → A → String → (List ℕ → Field A) → Reader A
-line empty key read (on text k) = settle empty text k (andThen (field (bytes key) text) read)
+line empty key read (on text k) = settle empty text k (andThen (afterKey (bytes key) text) read)
 line empty key read (stopped n k) = record { value = empty; next = stopped n k }
 
 -- "For templates 0 to N-1 seven lines in this order."

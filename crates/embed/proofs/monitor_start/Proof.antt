@@ -18,7 +18,7 @@ returns c =
     let at-row = c .before .before .before .before .before in
     let at-words = at-row .before .before in
     let at-start = at-words .before .before in
-    starts-so _ _ _ (at-start .start .ensures) _ _ (at-words .verdict-words .ensures) (at-row .row-of .ensures .0) (at-row .row-of .ensures .1)
+    starts-so _ _ _ (at-start .start .ensures) _ _ (at-words .verdict-words .ensures) (at-row .row-of .ensures)
 
 pub monitor-start-spec : {M : Type 1} → statement M
 monitor-start-spec =

@@ -16,7 +16,7 @@ returns : tie.Need-returns
 unfolding machineOf outcomeOf
 returns c =
     let made = c .before .before .before .before .before .before .before .before .before .before in
-    let did = by-row _ _ (made .row-of .ensures .0) _ _ _ _ _ _ (c .run-call .ensures) in
+    let did = by-row _ _ (made .row-of .ensures) _ _ _ _ _ _ (c .run-call .ensures) in
     (did .means, kept (made .before .before .args .state) _ _ (did .same))
 
 pub call-spec : {M : Type 1} → statement M

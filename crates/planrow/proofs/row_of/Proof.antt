@@ -1,7 +1,6 @@
 -- The words of the first i templates stand there (Writing); how many are left falls.
 use Prim.Native.Nat.{_-_}
 use borrow.Author.Needs.{needs}
-use Rattle.lists.proofs.Length.{length-into}
 use Rattle.plan.specs.Plan.{at}
 use Rattle.planrow.proofs.Writing.{Writing, writing-none, writing-room, writing-more, writing-all}
 use Rattle.planrow.proofs.row_of.Statement.{statement}
@@ -63,7 +62,7 @@ unfolding at
 loop-again c = search writing-more
 
 returns : tie.Need-returns Inv-loop μ-loop
-returns c = (search writing-all, search length-into)
+returns c = search writing-all
 
 pub row-of-spec : {M : Type 1} → statement M
 row-of-spec =

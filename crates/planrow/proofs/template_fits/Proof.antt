@@ -1,4 +1,4 @@
--- The definition, word by word; the masks are below the bound exactly where all of them together are.
+-- The definition, word by word.
 use Rattle.planrow.proofs.Fits.{template-gathered}
 use borrow.Author.Needs.{needs}
 use Rattle.planrow.proofs.template_fits.Statement.{statement}
@@ -15,42 +15,6 @@ mul-form c = search needs
 
 element-copy-out-form : tie.Need-element-copy-out-form
 element-copy-out-form c = search needs
-
-add-masks : tie.Need-add-masks
-add-masks c = search needs
-
-mul-masks : tie.Need-mul-masks
-mul-masks c = search needs
-
-element-copy-out-masks : tie.Need-element-copy-out-masks
-element-copy-out-masks c = search needs
-
-add-masks-2 : tie.Need-add-masks-2
-add-masks-2 c = search needs
-
-mul-masks-2 : tie.Need-mul-masks-2
-mul-masks-2 c = search needs
-
-element-copy-out-masks-2 : tie.Need-element-copy-out-masks-2
-element-copy-out-masks-2 c = search needs
-
-add-masks-3 : tie.Need-add-masks-3
-add-masks-3 c = search needs
-
-mul-masks-3 : tie.Need-mul-masks-3
-mul-masks-3 c = search needs
-
-element-copy-out-masks-3 : tie.Need-element-copy-out-masks-3
-element-copy-out-masks-3 c = search needs
-
-add-masks-4 : tie.Need-add-masks-4
-add-masks-4 c = search needs
-
-mul-masks-4 : tie.Need-mul-masks-4
-mul-masks-4 c = search needs
-
-element-copy-out-masks-4 : tie.Need-element-copy-out-masks-4
-element-copy-out-masks-4 c = search needs
 
 add-successor-fits : tie.Need-add-successor-fits
 add-successor-fits c = search needs
@@ -85,8 +49,8 @@ mul-result c = search needs
 element-copy-out-result : tie.Need-element-copy-out-result
 element-copy-out-result c = search needs
 
-is-mask-requires : tie.Need-is-mask-requires
-is-mask-requires c κs = search needs
+are-masks-requires : tie.Need-are-masks-requires
+are-masks-requires c κs = search needs
 
 returns : tie.Need-returns
 returns c = search template-gathered
@@ -99,18 +63,6 @@ template-fits-spec =
     add-at
     mul-form
     element-copy-out-form
-    add-masks
-    mul-masks
-    element-copy-out-masks
-    add-masks-2
-    mul-masks-2
-    element-copy-out-masks-2
-    add-masks-3
-    mul-masks-3
-    element-copy-out-masks-3
-    add-masks-4
-    mul-masks-4
-    element-copy-out-masks-4
     add-successor-fits
     mul-successor-fits
     element-copy-out-successor-fits
@@ -122,5 +74,5 @@ template-fits-spec =
     add-result
     mul-result
     element-copy-out-result
-    is-mask-requires
+    are-masks-requires
     returns)

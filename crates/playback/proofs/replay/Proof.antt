@@ -32,7 +32,7 @@ returns-2 c =
     let tested = made .before .before in
     let played = ran .run-calls .ensures in
     replays-so _ _ _ _ _ _ (tested .before .before .before .start .ensures) _ (tested .before .is-accepted .ensures) (tested .if1 .left)
-    _ (made .row-of .ensures .0) (made .row-of .ensures .1) _ (played .0) _ _ _ _ (played .1)
+    _ (made .row-of .ensures) _ (played .0) _ _ _ _ (played .1)
 
 pub replay-spec : {M : Type 1} → statement M
 replay-spec =

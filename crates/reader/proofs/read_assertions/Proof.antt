@@ -12,6 +12,9 @@ Inv-loop text n k assertions₀ at₀ i₀ assertions at i = Turn text n k (curs
 abbrev μ-loop : tie.MeasureT-loop
 μ-loop text n k assertions₀ at₀ i₀ assertions at i = k - i
 
+blank-assertion-requires : tie.Need-blank-assertion-requires Inv-loop μ-loop
+blank-assertion-requires c κs = search
+
 loop-holds : tie.Need-loop-holds Inv-loop μ-loop
 loop-holds c = search turn-first
 
@@ -42,6 +45,7 @@ read-assertions-spec =
     (tie.spec
     Inv-loop
     μ-loop
+    blank-assertion-requires
     loop-holds
     read-assertion-requires
     mul-assertions

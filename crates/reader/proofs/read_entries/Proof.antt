@@ -12,6 +12,9 @@ Inv-loop text n m templates₀ starts₀ ends₀ at₀ i₀ templates starts end
 abbrev μ-loop : tie.MeasureT-loop
 μ-loop text n m templates₀ starts₀ ends₀ at₀ i₀ templates starts ends at i = n - i
 
+blank-template-requires : tie.Need-blank-template-requires Inv-loop μ-loop
+blank-template-requires c κs = search
+
 loop-holds : tie.Need-loop-holds Inv-loop μ-loop
 loop-holds c = search turn-first
 
@@ -63,6 +66,7 @@ read-entries-spec =
     (tie.spec
     Inv-loop
     μ-loop
+    blank-template-requires
     loop-holds
     slice-aggregate-read-entry
     slice-aggregate-read-entry-2

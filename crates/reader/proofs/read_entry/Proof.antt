@@ -1,4 +1,5 @@
 -- One line after the other.
+use Rattle.plan.specs.Plan.{masks}
 use Rattle.reader.proofs.Gathered.{entry-gathered}
 use Rattle.reader.proofs.read_entry.Statement.{statement}
 use Rattle.reader.proofs.read_entry.Tie as tie
@@ -16,6 +17,7 @@ risk-line-requires : tie.Need-risk-line-requires
 risk-line-requires c κs = search
 
 returns : tie.Need-returns
+unfolding masks
 returns c = search entry-gathered
 
 pub read-entry-spec : {M : Type 1} → statement M

@@ -1,5 +1,7 @@
 -- One line after the other.
-use Rattle.reader.proofs.Gathered.{masks-gathered}
+use mathlib.Core.Path.{refl}
+use Rattle.plan.specs.Plan.{masks}
+use Rattle.reader.proofs.Masks.{masks-more, masks-none}
 use Rattle.reader.proofs.read_masks.Statement.{statement}
 use Rattle.reader.proofs.read_masks.Tie as tie
 
@@ -28,7 +30,8 @@ mask-line-requires-4 : tie.Need-mask-line-requires-4
 mask-line-requires-4 c κs = search
 
 returns : tie.Need-returns
-returns c = search masks-gathered
+unfolding masks
+returns c = (search (masks-more, masks-none), refl)
 
 pub read-masks-spec : {M : Type 1} → statement M
 read-masks-spec =
