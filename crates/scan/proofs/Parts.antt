@@ -27,13 +27,13 @@ module _ (text : List ℕ) (start end : ℕ) where
   nothing : (k : ℕ) → k ≡ 0 → (l : List ℕ) → [] ≡ take k l
   nothing k e l = sym (ap (λ (j : ℕ). take j l) e)
 
-  -- The empty part, as the code lends it.
-  pub part-empty : end ≤ start → take (0 - 0) (drop 0 text) ≡ take (end - start) (drop start text)
-  part-empty h = sym (nothing (0 - 0) (omega arith) (drop 0 text)) ∙ nothing (end - start) (omega arith) (drop start text)
+  -- The empty part at its start, and the one at the text's end, as the code lends them.
+  pub part-empty : end ≤ start → take (start - start) (drop start text) ≡ take (end - start) (drop start text)
+  part-empty h = sym (nothing (start - start) (omega arith) (drop start text)) ∙ nothing (end - start) (omega arith) (drop start text)
 
-  pub part-past : length text ≤ start → take (0 - 0) (drop 0 text) ≡ take (end - start) (drop start text)
+  pub part-past : length text ≤ start → take (length text - length text) (drop (length text) text) ≡ take (end - start) (drop start text)
   part-past h =
-      sym (nothing (0 - 0) (omega arith) (drop 0 text))
+      sym (nothing (length text - length text) (omega arith) (drop (length text) text))
       ∙ sym (ap (take (end - start)) (drop-of-length-le text h) ∙ take-nil (end - start))
 
   pub part-rest : length text ≤ end → take (length text - start) (drop start text) ≡ take (end - start) (drop start text)

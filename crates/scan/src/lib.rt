@@ -45,16 +45,17 @@ pub fn same_bytes(s: &[u8], t: &[u8]) -> bool
     starts_with(s, t)
 }
 
-// The bytes from start to end, those of them that the text has.
+// The bytes from start to end, those of them that the text has. An empty part, too, lies at its start, or at the text's end
+// where the start is past it.
 pub fn part<'a>(text: &'a [u8], start: usize, end: usize) -> &'a [u8]
     ensures { λ r. ⌜ now r ≡ take (end - start) (drop start (now (text .entry))) ⌝ }
 {
     let n = text.len();
-    if end <= start {
-        return &text[0..0];
-    }
     if n <= start {
-        return &text[0..0];
+        return &text[n..n];
+    }
+    if end <= start {
+        return &text[start..start];
     }
     if n <= end {
         return &text[start..n];

@@ -14,7 +14,7 @@ part-result-end : tie.Need-part-result-end
 part-result-end c = search needs
 
 returns : tie.Need-returns
-returns c = search part-empty
+returns c = search part-past
 
 sub-result-2 : tie.Need-sub-result-2
 sub-result-2 c = search needs
@@ -26,7 +26,7 @@ part-result-end-2 : tie.Need-part-result-end-2
 part-result-end-2 c = search needs
 
 returns-2 : tie.Need-returns-2
-returns-2 c = search part-past
+returns-2 c = search part-empty
 
 sub-result-3 : tie.Need-sub-result-3
 sub-result-3 c = search needs
