@@ -1,11 +1,12 @@
 -- Parts of a list as the code lends them: `&s[a..e]` is `take (e - a) (drop a s)`.
-use Prim.Native.Nat.{ℕ, zero, suc, _-_, _≤_}
+use Prim.Native.Nat.{ℕ, zero, suc, _-_, min, _≤_, _<_}
 use mathlib.Core.Path.{_≡_, sym, ap, _∙_}
 use mathlib.Core.List.{List, [], _∷_}
 use native.Mathlib.Omega.{arith}
 use native.Mathlib.Nat.{sub-zero, zero-sub, suc-sub-suc}
 use lib.ListN.{length, take, drop, length-drop, drop-of-length-le}
 use lib.Seq.{take-all, take-nil}
+use Rattle.scan.specs.Bytes.{further}
 
 -- A part that goes to the end.
 pub rest-of : (s : List ℕ) (i : ℕ) → take (length s - i) (drop i s) ≡ drop i s
@@ -40,3 +41,11 @@ module _ (text : List ℕ) (start end : ℕ) where
   part-rest h =
       take-all (length text - start) (drop start text) (simp length-drop (omega arith))
       ∙ sym (take-all (end - start) (drop start text) (simp length-drop (omega arith)))
+
+-- Where it lies, from where the text does.
+module _ (p : ℕ × ℕ) (start n : ℕ) where
+  pub place-past : n ≤ start → further n p ≡ further (min start n) p
+  place-past h = let e : n ≡ min start n = omega arith in ap (λ (k : ℕ). further k p) e
+
+  pub place-within : start < n → further start p ≡ further (min start n) p
+  place-within h = let e : start ≡ min start n = omega arith in ap (λ (k : ℕ). further k p) e
