@@ -4,3 +4,4 @@ pub mod Assertions
 pub mod Gathered
 pub mod Closing
 pub mod Range
+pub mod Places

@@ -25,7 +25,8 @@ use Rattle.plan.specs.Range.{Below, InRange, Clear, AssertionInRange, PolicyInR
 use Rattle.scan.specs.Bytes.{bytes, before, startsWith, same, standsIn}
 use Rattle.field.specs.Fields.{Field, is, bad, andThen, decimal, number, templateNumber, mask, nameByte, name, pair, form, risk, kind, misplaced, declass}
 use Rattle.field.proofs.Each.{Each, each-is, each-bad, each-if, each-then, number-range, mask-read}
-use Rattle.text.specs.Reading.{longest, Cursor, on, stopped, field, settle, line, entry, entries, plan, assertion, assertions, policy, closed, checked, ifComplete, noPlan, noPolicy, readPlan, readPolicy}
+use Rattle.text.specs.Reading.{longest, Cursor, on, stopped, line, entry, entries, plan, assertion, assertions, policy, closed, checked, ifComplete, noPlan, noPolicy, readPlan, readPolicy}
+use Rattle.text.proofs.Passed.{Live, fieldAfter, line-read}
 use Rattle.reader.proofs.Rows.{row-in, row-past, row-cons}
 use Rattle.reader.specs.Names.{names, planNames, Distinct}
 use Rattle.text.specs.declared.Reading.the-variants.{Complete, Refused}
@@ -80,32 +81,18 @@ declass-range N k source sink s =
 
 -- ---- what a line gives
 
--- Reading has not stopped.
-abbrev Live : Cursor → Type 0
-Live (on text k) = Unit
-Live (stopped n k) = ⊥
-
 -- A line after which reading has not stopped was not stopped before, and its value was read from some field.
-line-read : {A : Type 0} (empty : A) (key : String) (read : List ℕ → Field A) (c : Cursor)
+line-from : {A : Type 0} (empty : A) (key : String) (read : List ℕ → Field A) (c : Cursor)
     → Live (line empty key read c .next) → Live c × ((s : List ℕ) × (read s ≡ is (line empty key read c .value)))
-unfolding line settle andThen
-line-read {A} empty key read (stopped n k) h = absurd h
-line-read {A} empty key read (on text k) h = (tt, outer (field (bytes key) text) h)
-  where
-    inner : (x : Field A) → Live (settle empty text k x .next) → x ≡ is (settle empty text k x .value)
-    inner (is v) g = refl
-    inner (bad n) g = absurd g
-
-    outer : (x : Field (List ℕ)) → Live (settle empty text k (andThen x read) .next)
-        → (s : List ℕ) × (read s ≡ is (settle empty text k (andThen x read) .value))
-    outer (is s) g = (s, inner (read s) g)
-    outer (bad n) g = absurd g
+unfolding line
+line-from empty key read (stopped n k) live = absurd live
+line-from empty key read (on text k) live = (tt, (fieldAfter key text, line-read empty key read text k live .2))
 
 -- The same for what is true of every field; so for a mask over M items, for a number and for a template's number.
 line-each : {A : Type 0} (P : A → Type 0) (empty : A) (key : String) (read : List ℕ → Field A) → ((s : List ℕ) → Each P (read s))
     → (c : Cursor) → Live (line empty key read c .next) → Live c × P (line empty key read c .value)
 line-each P empty key read h c live =
-    let r = line-read empty key read c live in
+    let r = line-from empty key read c live in
     (r .0, h (r .1 .0) (line empty key read c .value) (r .1 .1))
 
 mask-line : (M : ℕ) (key : String) (c : Cursor) → Live (line 0 key (mask 8 M) c .next) → Live c × Below M (line 0 key (mask 8 M) c .value)
@@ -146,7 +133,7 @@ entry-fine N M stood c live =
     let c₄ = line 0 "pos=" (mask 8 M) c₃ .next in
     let c₅ = line 0 "neg=" (mask 8 M) c₄ .next in
     let c₆ = line 0 "creates=" (mask 8 M) c₅ .next in
-    let risk-line = line-read false "risk=" risk c₆ live in
+    let risk-line = line-from false "risk=" risk c₆ live in
     let creates-line = mask-line M "creates=" c₅ (risk-line .0) in
     let neg-line = mask-line M "neg=" c₄ (creates-line .0) in
     let pos-line = mask-line M "pos=" c₃ (neg-line .0) in
@@ -175,7 +162,7 @@ unfolding closed
 complete-live (on text k) e = tt
 complete-live (stopped n k) e = let z : _≡_ {A = ℕ} 0 1 = cc in absurd (omega arith)
 
-checked-live : (text : List ℕ) (c : Cursor) → checked text c ≡ Complete → Live c
+pub checked-live : (text : List ℕ) (c : Cursor) → checked text c ≡ Complete → Live c
 unfolding checked
 checked-live text c e = go (leb (length text) longest) e
   where
@@ -184,7 +171,7 @@ checked-live text c e = go (leb (length text) longest) e
     go false q = let z : _≡_ {A = ℕ} 0 1 = cc in absurd (omega arith)
 
 -- What reading to the end shows of a value is true of what a complete reading hands back.
-complete-holds : {A : Type 0} (P : A → Type 0) (text : List ℕ) (c : Cursor) (v none : A) → (Live c → P v)
+pub complete-holds : {A : Type 0} (P : A → Type 0) (text : List ℕ) (c : Cursor) (v none : A) → (Live c → P v)
     → checked text c ≡ Complete → P (ifComplete (checked text c) v none)
 unfolding ifComplete
 complete-holds P text c v none h e = rw e (h (checked-live text c e))
@@ -294,7 +281,7 @@ assertion-fine N c live =
     let anc-line = template-line N "anc=" (sinks .next) (declass-line .0) in
     let sink-line = template-line N "sink=" (sources .next) (anc-line .0) in
     let source-line = template-line N "source=" (kinds .next) (sink-line .0) in
-    let kind-line = line-read Secrecy "kind=" kind c (source-line .0) in (
+    let kind-line = line-from Secrecy "kind=" kind c (source-line .0) in (
       kind-line .0,
       record {
         source = source-line .1;
@@ -305,7 +292,7 @@ assertion-fine N c live =
       },
     )
 
-assertions-fine : (N : ℕ) (more : ℕ) (c : Cursor) → Live (assertions N more c .next)
+pub assertions-fine : (N : ℕ) (more : ℕ) (c : Cursor) → Live (assertions N more c .next)
     → Live c × (length (assertions N more c .value) ≡ more) × ((i : ℕ) → i < more → AssertionInRange N (getD (assertions N more c .value) i blankAssertion))
 unfolding assertions
 assertions-fine N zero c live = (live, refl, λ i h. absurd (omega arith))
