@@ -34,14 +34,18 @@ name-whole stood s =
 
 -- ---- names
 
+-- The first line of the text begins with `name=`, and what follows is that name.
+abbrev pub NameHere : List ℕ → List ℕ → Type 0
+NameHere text n = (startsWith (bytes "name=") (firstLine text) ≡ true) × (n ≡ fieldAfter "name=" text)
+
 module _ (N M : ℕ) where
   -- Every name stands on the first line of its template.
   abbrev NamesStand : ℕ → List (List ℕ) → List ℕ → ℕ → Type 0
   NamesStand more stood text k = Live (entries N M stood more (on text k) .next)
-      → (X : ℕ) → X < more → getD (names N M stood more (on text k)) X [] ≡ fieldAfter "name=" (afterLines (templateLines * X) text)
+      → (X : ℕ) → X < more → NameHere (afterLines (templateLines * X) text) (getD (names N M stood more (on text k)) X [])
 
-  next-name : (more : ℕ) (stood : List (List ℕ)) (text : List ℕ) (k : ℕ) → ((n : List ℕ) → NamesStand more (n ∷ stood) (afterLines templateLines text) (k + templateLines))
-      → NamesStand (suc more) stood text k
+  next-name : (more : ℕ) (stood : List (List ℕ)) (text : List ℕ) (k : ℕ)
+      → ((n : List ℕ) → NamesStand more (n ∷ stood) (afterLines templateLines text) (k + templateLines)) → NamesStand (suc more) stood text k
   unfolding entry entries names afterLines
   next-name more stood text k later live = go
     where
@@ -57,24 +61,27 @@ module _ (N M : ℕ) where
       c-stands : c ≡ on (afterLines templateLines text) (k + templateLines)
       c-stands = entry-passes N M stood .0 .lands text k c-live
 
-      go : (X : ℕ) → X < suc more → getD (n ∷ names N M (n ∷ stood) more c) X [] ≡ fieldAfter "name=" (afterLines (templateLines * X) text)
-      go zero g = name-whole stood (fieldAfter "name=" text) n (line-read [] "name=" (name stood) text k (entry-passes N M stood .1 (on text k) c-live) .2)
+      go : (X : ℕ) → X < suc more → NameHere (afterLines (templateLines * X) text) (getD (n ∷ names N M (n ∷ stood) more c) X [])
+      go zero g =
+          let r = line-read [] "name=" (name stood) text k (entry-passes N M stood .1 (on text k) c-live) in
+          (r .1, name-whole stood (fieldAfter "name=" text) n (r .2))
       go (suc Y) g =
           let sum : templateLines + templateLines * Y ≡ templateLines * suc Y = omega arith in
-          ap (λ (d : Cursor). getD (names N M (n ∷ stood) more d) Y []) c-stands
-          ∙ later n (subst (λ (d : Cursor). Live (entries N M (n ∷ stood) more d .next)) c-stands live) Y (omega arith)
-          ∙ ap (fieldAfter "name=") (more-lines templateLines (templateLines * Y) text ∙ ap (λ (j : ℕ). afterLines j text) sum)
+          let there = more-lines templateLines (templateLines * Y) text ∙ ap (λ (j : ℕ). afterLines j text) sum in
+          subst (λ (t : List ℕ). NameHere t (getD (names N M (n ∷ stood) more c) Y [])) there
+          (subst (λ (d : Cursor). NameHere (afterLines (templateLines * Y) (afterLines templateLines text)) (getD (names N M (n ∷ stood) more d) Y [])) (sym c-stands)
+          (later n (subst (λ (d : Cursor). Live (entries N M (n ∷ stood) more d .next)) c-stands live) Y (omega arith)))
 
   names-stand : (more : ℕ) (stood : List (List ℕ)) (text : List ℕ) (k : ℕ) → NamesStand more stood text k
   names-stand zero stood text k = λ live X h. absurd (omega arith)
   names-stand (suc more) stood text k = next-name more stood text k (λ n. names-stand more (n ∷ stood) (afterLines templateLines text) (k + templateLines))
 
--- The name of template X of a plan that reading gives as complete is the field of the first of its lines.
+-- The name of template X of a plan that reading gives as complete stands on the first of its lines, after `name=`.
 pub name-stands : (text : List ℕ) → readPlan text .answer ≡ Complete
-    → (X : ℕ) → X < readPlan text .plan .count → getD (planNames text) X [] ≡ fieldAfter "name=" (afterLines (planHeader + templateLines * X) text)
+    → (X : ℕ) → X < readPlan text .plan .count → NameHere (afterLines (planHeader + templateLines * X) text) (getD (planNames text) X [])
 unfolding readPlan plan planNames
 name-stands text =
-    complete-holds (λ (p : Plan). (X : ℕ) → X < p .count → getD (planNames text) X [] ≡ fieldAfter "name=" (afterLines (planHeader + templateLines * X) text))
+    complete-holds (λ (p : Plan). (X : ℕ) → X < p .count → NameHere (afterLines (planHeader + templateLines * X) text) (getD (planNames text) X []))
     text (plan (on text 1) .next) (plan (on text 1) .value) noPlan read
   where
     N : ℕ
@@ -89,12 +96,12 @@ name-stands text =
     d : Cursor
     d = line 0 "identifiers=" (number 3 0 33) c .next
 
-    read : Live (plan (on text 1) .next) → (X : ℕ) → X < N → getD (planNames text) X [] ≡ fieldAfter "name=" (afterLines (planHeader + templateLines * X) text)
+    read : Live (plan (on text 1) .next) → (X : ℕ) → X < N → NameHere (afterLines (planHeader + templateLines * X) text) (getD (planNames text) X [])
     read live X h =
         let start = plan-header text (passes-live _ _ (entries-passes N M N []) d live) in
-        ap (λ (e : Cursor). getD (names N M [] N e) X []) start
-        ∙ names-stand N M N [] (afterLines planHeader text) (1 + planHeader) (subst (λ (e : Cursor). Live (entries N M [] N e .next)) start live) X h
-        ∙ ap (fieldAfter "name=") (more-lines planHeader (templateLines * X) text)
+        subst (λ (t : List ℕ). NameHere t (getD (planNames text) X [])) (more-lines planHeader (templateLines * X) text)
+        (subst (λ (e : Cursor). NameHere (afterLines (templateLines * X) (afterLines planHeader text)) (getD (names N M [] N e) X [])) (sym start)
+        (names-stand N M N [] (afterLines planHeader text) (1 + planHeader) (subst (λ (e : Cursor). Live (entries N M [] N e .next)) start live) X h))
 
 -- ---- kinds
 

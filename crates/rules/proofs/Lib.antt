@@ -2,3 +2,4 @@ pub mod Walk
 pub mod Edges
 pub mod Assertions
 pub mod Exact
+pub mod First

@@ -1,6 +1,6 @@
 -- The shown part: its text, start and end, its bytes, and where it lies (document 01, "Showing").
 -- Believed: everything here. Proved against it: crate showing.
-use Prim.Native.Nat.{ℕ, zero, suc, _+_, _-_, _*_, min}
+use Prim.Native.Nat.{ℕ, zero, suc, _+_, _-_, _*_}
 use mathlib.Core.{Bool.{cond}, List.{List}}
 use lib.{Dec.{leb, ltb}, ListN.{length, take, drop}}
 use Rattle.scan.specs.Bytes.{bytes, before, further}
@@ -55,10 +55,9 @@ located (Unread f) planText policyText =
 unfoldable pub within : Part → List ℕ → List ℕ → List ℕ
 within part planText policyText = take (part .end - part .start) (drop (part .start) (textOf (part .text) planText policyText))
 
--- Where it lies, the texts lying at p and q: at its start, or at the text's end where the start is past it.
-unfoldable pub lying : Part → List ℕ → List ℕ → ℕ × ℕ → ℕ × ℕ → ℕ × ℕ
-lying part planText policyText p q =
-    further (min (part .start) (length (textOf (part .text) planText policyText))) (textOf (part .text) p q)
+-- Where it lies, the texts lying at p and q.
+unfoldable pub lying : Part → ℕ × ℕ → ℕ × ℕ → ℕ × ℕ
+lying part p q = further (part .start) (textOf (part .text) p q)
 
 -- "Showing takes the texts, judges them": the part, and the bytes between its numbers.
 unfoldable pub locate : List ℕ → List ℕ → Part

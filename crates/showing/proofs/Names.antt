@@ -27,7 +27,7 @@ none-left zero = refl
 none-left (suc n) = none-left n
 
 -- From where a line begins on stands the text after the lines before it.
-from-line : (n start : ℕ) (text : List ℕ) → drop (lineStart n start text) text ≡ afterLines n (drop start text)
+pub from-line : (n start : ℕ) (text : List ℕ) → drop (lineStart n start text) text ≡ afterLines n (drop start text)
 unfolding lineStart afterLines
 from-line zero start text = refl
 from-line (suc n) start text = go (ltb (start + b) (length text)) refl (from-line n (start + b + 1) text)
@@ -60,7 +60,7 @@ pub name-shown : (planText policyText : List ℕ) → readPlan planText .answer 
 unfolding nameOf within
 name-shown planText policyText e X h =
     line-part planText (lineStart (planHeader + templateLines * X) 0 planText) (length (bytes "name="))
-    ∙ ap (fieldAfter "name=") (from-line (planHeader + templateLines * X) 0 planText) ∙ sym (name-stands planText e X h)
+    ∙ ap (fieldAfter "name=") (from-line (planHeader + templateLines * X) 0 planText) ∙ sym (name-stands planText e X h .1)
 
 -- The shown line of an assertion begins with `kind=`, and what follows was read as its kind.
 pub kind-shown : (N : ℕ) (planText policyText : List ℕ) → readPolicy N policyText .answer ≡ Complete

@@ -14,8 +14,9 @@ use Rattle.rules.specs.declared.Verdict.the-variants.{Accepted, Broken, Unread}
 use Rattle.rules.specs.declared.Part.{Part}
 use Rattle.scan.specs.Bytes.{further}
 use Rattle.text.specs.Reading.{planHeader, templateLines, policyHeader, assertionLines}
-use Rattle.rules.specs.Show.{from, textOf, lineStart, lineEnd, faultyLine, nameOf, kindLine, located, within, lying, locate, shown}
+use Rattle.rules.specs.Show.{from, textOf, lineStart, lineEnd, faultyLine, nameOf, kindLine, located, within, locate, shown}
 use Rattle.rules.specs.Judge.{judge}
+use Rattle.showing.specs.Places.{nearest}
 
 -- ---- where it lies
 
@@ -79,17 +80,17 @@ module _ (plan policy : List ℕ) (p q : Part) (e : p ≡ q) where
   bytes-policy r t = bytes-there policy r (sym (ap (λ (x : Text). textOf x plan policy) t))
 
   module _ (a b r : ℕ × ℕ) where
-    pub lies-plan : p .text ≡ PlanText → r ≡ further (min (p .start) (length plan)) a → r ≡ lying q plan policy a b
-    unfolding lying
+    pub lies-plan : p .text ≡ PlanText → r ≡ further (min (p .start) (length plan)) a → r ≡ nearest q plan policy a b
+    unfolding nearest
     lies-plan t h =
         h ∙ sym (ap (λ (x : Text). further (min (p .start) (length (textOf x plan policy))) (textOf x a b)) t)
-        ∙ ap (λ (x : Part). lying x plan policy a b) e
+        ∙ ap (λ (x : Part). nearest x plan policy a b) e
 
-    pub lies-policy : p .text ≡ PolicyText → r ≡ further (min (p .start) (length policy)) b → r ≡ lying q plan policy a b
-    unfolding lying
+    pub lies-policy : p .text ≡ PolicyText → r ≡ further (min (p .start) (length policy)) b → r ≡ nearest q plan policy a b
+    unfolding nearest
     lies-policy t h =
         h ∙ sym (ap (λ (x : Text). further (min (p .start) (length (textOf x plan policy))) (textOf x a b)) t)
-        ∙ ap (λ (x : Part). lying x plan policy a b) e
+        ∙ ap (λ (x : Part). nearest x plan policy a b) e
 
 -- ---- the judge's own verdict
 
@@ -100,8 +101,3 @@ judged-lies plan policy v r e h = h ∙ ap (λ (x : Verdict). located x plan pol
 pub judged-bytes : (plan policy : List ℕ) (v : Verdict) (r : List ℕ) → v ≡ judge plan policy → r ≡ within (located v plan policy) plan policy → r ≡ shown plan policy
 unfolding shown locate
 judged-bytes plan policy v r e h = h ∙ ap (λ (x : Verdict). within (located x plan policy) plan policy) e
-
-pub judged-place : (plan policy : List ℕ) (v : Verdict) (a b r : ℕ × ℕ) → v ≡ judge plan policy → r ≡ lying (located v plan policy) plan policy a b
-    → r ≡ lying (locate plan policy) plan policy a b
-unfolding locate
-judged-place plan policy v a b r e h = h ∙ ap (λ (x : Verdict). lying (located x plan policy) plan policy a b) e

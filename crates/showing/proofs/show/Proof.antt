@@ -1,5 +1,6 @@
 -- Of the judge's own verdict.
-use Rattle.showing.proofs.Parts.{judged-bytes, judged-place}
+use Rattle.showing.proofs.Parts.{judged-bytes}
+use Rattle.showing.proofs.Inside.{judged-place}
 use borrow.Author.Needs.{needs}
 use Rattle.showing.proofs.show.Statement.{statement}
 use Rattle.showing.proofs.show.Tie as tie
