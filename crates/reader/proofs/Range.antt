@@ -23,7 +23,7 @@ use Rattle.plan.specs.declared.Kind.the-variants.{Secrecy, Prot}
 use Rattle.plan.specs.Plan.{blank, blankAssertion, at, assertionAt, successors, Among}
 use Rattle.plan.specs.Range.{Below, InRange, Clear, AssertionInRange, PolicyInRange}
 use Rattle.scan.specs.Bytes.{bytes, before, startsWith, same, standsIn}
-use Rattle.field.specs.Fields.{Field, is, bad, andThen, decimal, number, templateNumber, mask, nameByte, name, pair, form, risk, kind, misplaced, declass}
+use Rattle.field.specs.Fields.{Field, is, bad, decimal, number, templateNumber, mask, nameByte, name, pair, form, risk, kind, misplaced, declass}
 use Rattle.field.proofs.Each.{Each, each-is, each-bad, each-if, each-then, number-range, mask-read}
 use Rattle.text.specs.Reading.{longest, Cursor, on, stopped, line, entry, entries, plan, assertion, assertions, policy, closed, checked, ifComplete, noPlan, noPolicy, readPlan, readPolicy}
 use Rattle.text.proofs.Passed.{Live, fieldAfter, line-read}

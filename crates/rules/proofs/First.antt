@@ -10,7 +10,7 @@ use Rattle.plan.specs.declared.Kind.{Kind}
 use Rattle.plan.specs.declared.Assertion.{Assertion}
 use Rattle.plan.specs.declared.Policy.{Policy}
 use Rattle.rules.specs.declared.Breach.{Breach}
-use Rattle.rules.specs.Broken.{CreatedTwice, EdgeBroken, broken12, broken13, broken14, broken15, broken16, AssertionBroken, broken17, broken18, broken19, FirstBroken, broken11, on-edge, on-assertion}
+use Rattle.rules.specs.Broken.{EdgeBroken, broken12, broken13, broken14, broken15, broken16, AssertionBroken, broken17, broken18, broken19, FirstBroken, broken11, on-edge, on-assertion}
 
 edge-first : (plan : Plan) (X Y : ℕ) (b : Breach) → EdgeBroken plan X Y b → b .first ≡ X
 edge-first plan X Y _ (broken12 k) = refl

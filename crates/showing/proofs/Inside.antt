@@ -1,20 +1,19 @@
 -- The part that the judge's verdict shows lies in its text: whoever is given its numbers may take the bytes between them.
 use Prim.Native.Nat.{ℕ, zero, suc, _+_, _*_, min, _≤_, _<_}
-use mathlib.Core.Path.{_≡_, refl, sym, ap, _∙_, subst}
+use mathlib.Core.Path.{_≡_, refl, sym, ap, _∙_}
 use mathlib.Core.Logic.{_⊎_, inl, inr}
 use mathlib.Core.Bool.{Bool, true, false, cond, true≢false}
 use mathlib.Core.List.{List}
 use native.Mathlib.Omega.{arith}
 use lib.Dec.{ltb, leb}
-use lib.ListN.{length, getD, take, drop, length-take, length-drop}
+use lib.ListN.{length, drop, length-take, length-drop}
 use borrow.Author.Tests.{ltb-true}
 use Rattle.scan.specs.Bytes.{bytes, before, further}
 use Rattle.scan.proofs.Steps.{before-le, starts-long}
 use Rattle.text.specs.Reading.{planHeader, templateLines, policyHeader, assertionLines, readPlan}
 use Rattle.text.specs.declared.Reading.the-variants.{Complete}
-use Rattle.text.proofs.Passed.{afterLines, firstLine}
+use Rattle.text.proofs.Passed.{firstLine}
 use Rattle.reader.proofs.Places.{name-stands}
-use Rattle.rules.specs.declared.Fault.{Fault}
 use Rattle.rules.specs.declared.Breach.{Breach}
 use Rattle.rules.specs.declared.Part.{Part}
 use Rattle.rules.specs.declared.Verdict.{Verdict}

@@ -1,23 +1,23 @@
 -- What is shown is what was read: the name of template X is the X-th name that reading read, and the line of assertion i is the one
 -- that its kind was read from.
 use Prim.Native.Nat.{ℕ, zero, suc, _+_, _-_, _*_, _≤_, _<_}
-use mathlib.Core.Path.{_≡_, refl, sym, ap, _∙_, subst}
+use mathlib.Core.Path.{_≡_, refl, sym, ap, _∙_}
 use mathlib.Core.Bool.{Bool, true, false, cond}
-use mathlib.Core.List.{List, [], _∷_}
+use mathlib.Core.List.{List, []}
 use native.Mathlib.Omega.{arith}
 use lib.Dec.{ltb}
-use lib.ListN.{length, getD, take, drop, length-drop, drop-of-length-le}
+use lib.ListN.{length, getD, take, drop, drop-of-length-le}
 use lib.Seq.{drop-drop}
 use borrow.Author.Tests.{ltb-false}
 use Rattle.scan.specs.Bytes.{bytes, before, startsWith}
-use Rattle.scan.proofs.Parts.{drop-take, first-of}
+use Rattle.scan.proofs.Parts.{drop-take}
 use Rattle.plan.specs.Plan.{assertionAt}
 use Rattle.field.specs.Fields.{is, kind}
 use Rattle.text.specs.Reading.{planHeader, templateLines, policyHeader, assertionLines, readPlan, readPolicy}
 use Rattle.text.specs.declared.Reading.the-variants.{Complete}
 use Rattle.text.proofs.Passed.{afterLines, firstLine, fieldAfter}
 use Rattle.reader.specs.Names.{planNames}
-use Rattle.reader.proofs.Places.{KindHere, name-stands, kind-stands}
+use Rattle.reader.proofs.Places.{name-stands, kind-stands}
 use Rattle.rules.specs.Show.{lineStart, lineEnd, nameOf, kindLine, within}
 
 -- Nothing is left after the last line.

@@ -147,7 +147,7 @@ pub fn locate<'a>(plan: &'a [u8], policy: &'a [u8]) -> Part
     locate_verdict(plan, policy, verdict::judge(plan, policy))
 }
 
-// and the part itself.
+// and the part itself, which lies there in the text.
 pub fn show<'a>(plan: &'a [u8], policy: &'a [u8]) -> &'a [u8]
     ensures { λ r. ⌜ now r ≡ shown (now (plan .entry)) (now (policy .entry)) ⌝ }
     ensures place { λ r. ⌜ r .ptr ≡ lying (locate (now (plan .entry)) (now (policy .entry))) (plan .entry .ptr) (policy .entry .ptr) ⌝ }

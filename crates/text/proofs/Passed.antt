@@ -1,7 +1,7 @@
 -- What a reader that did not stop has passed: so many whole lines, each with its key, and a field that was read.
-use Prim.Native.Nat.{ℕ, zero, suc, _+_, _*_, _<_}
+use Prim.Native.Nat.{ℕ, zero, suc, _+_, _*_}
 use Prim.Native.String.{String}
-use mathlib.Core.Path.{_≡_, refl, sym, ap, _∙_, subst}
+use mathlib.Core.Path.{_≡_, refl, ap, _∙_, subst}
 use mathlib.Core.Bool.{Bool, true, false}
 use mathlib.Core.List.{List, [], _∷_}
 use native.Mathlib.Omega.{arith}
@@ -122,24 +122,24 @@ passes-first m n r next first later =
 pub entry-passes : (N M : ℕ) (stood : List (List ℕ)) → Passes templateLines (entry N M stood) × Begins (line [] "name=" (name stood)) (entry N M stood)
 unfolding entry
 entry-passes N M stood =
-    passes-first 1 6 _ _ (passes-line [] "name=" (name stood)) (λ n.
-    passes-then 1 5 _ _ (passes-line End "form=" (form N)) (λ f.
-    passes-then 1 4 _ _ (passes-line 0 "lab=" (mask 8 M)) (λ l.
-    passes-then 1 3 _ _ (passes-line 0 "pos=" (mask 8 M)) (λ p.
-    passes-then 1 2 _ _ (passes-line 0 "neg=" (mask 8 M)) (λ g.
-    passes-then 1 1 _ _ (passes-line 0 "creates=" (mask 8 M)) (λ c.
-    passes-then 1 0 _ _ (passes-line false "risk=" risk) (λ r.
+    passes-first 1 _ _ _ (passes-line [] "name=" (name stood)) (λ n.
+    passes-then 1 _ _ _ (passes-line End "form=" (form N)) (λ f.
+    passes-then 1 _ _ _ (passes-line 0 "lab=" (mask 8 M)) (λ l.
+    passes-then 1 _ _ _ (passes-line 0 "pos=" (mask 8 M)) (λ p.
+    passes-then 1 _ _ _ (passes-line 0 "neg=" (mask 8 M)) (λ g.
+    passes-then 1 _ _ _ (passes-line 0 "creates=" (mask 8 M)) (λ c.
+    passes-then 1 _ _ _ (passes-line false "risk=" risk) (λ r.
     passes-none (record { name = n; template = record { form = f; lab = l; pos = p; neg = g; creates = c; risk = r } }))))))))
 
 -- The lines of an assertion, and that its first is that of its kind.
 pub assertion-passes : (N : ℕ) → Passes assertionLines (assertion N) × Begins (line Secrecy "kind=" kind) (assertion N)
 unfolding assertion
 assertion-passes N =
-    passes-first 1 4 _ _ (passes-line Secrecy "kind=" kind) (λ k.
-    passes-then 1 3 _ _ (passes-line 0 "source=" (templateNumber N)) (λ s.
-    passes-then 1 2 _ _ (passes-line 0 "sink=" (templateNumber N)) (λ z.
-    passes-then 1 1 _ _ (passes-line 0 "anc=" (templateNumber N)) (λ a.
-    passes-then 1 0 _ _ (passes-line 0 "declass=" (declass N k s z)) (λ d.
+    passes-first 1 _ _ _ (passes-line Secrecy "kind=" kind) (λ k.
+    passes-then 1 _ _ _ (passes-line 0 "source=" (templateNumber N)) (λ s.
+    passes-then 1 _ _ _ (passes-line 0 "sink=" (templateNumber N)) (λ z.
+    passes-then 1 _ _ _ (passes-line 0 "anc=" (templateNumber N)) (λ a.
+    passes-then 1 _ _ _ (passes-line 0 "declass=" (declass N k s z)) (λ d.
     passes-none (record { kind = k; source = s; sink = z; anc = a; declass = d }))))))
 
 -- ---- the two texts

@@ -1,4 +1,4 @@
--- An empty part, the rest of the text, or what lies between.
+-- The text's end, an empty part, the rest of the text, or what lies between.
 use Rattle.scan.proofs.Parts.{part-empty, part-past, part-rest, place-past, place-within}
 use borrow.Author.Needs.{needs}
 use Rattle.scan.proofs.part.Statement.{statement}

@@ -1,4 +1,4 @@
--- Of the judge's own verdict.
+-- Of the judge's own verdict, whose part lies in its text.
 use Rattle.showing.proofs.Parts.{judged-bytes}
 use Rattle.showing.proofs.Inside.{judged-place}
 use borrow.Author.Needs.{needs}

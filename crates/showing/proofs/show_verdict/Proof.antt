@@ -1,4 +1,4 @@
--- The bytes between the numbers, of the text that they name.
+-- The bytes between the numbers, of the text that they name, where they stand in it.
 use Rattle.showing.proofs.Parts.{bytes-plan, bytes-policy, lies-plan, lies-policy}
 use borrow.Author.Needs.{needs}
 use Rattle.showing.proofs.show_verdict.Statement.{statement}
