@@ -81,7 +81,9 @@ void monitor_judge(const uint8_t *plan, size_t plan_len, const uint8_t *policy, 
                    uint32_t verdict[MONITOR_VERDICT_WORDS]);
 
 /* Judges the two texts; part[0] is the text that the verdict points into, and the bytes from part[1] up to part[2] are
- * the part shown: the faulty line, the name of template first, or the assertion's `kind=` line.                       */
+ * the part shown: the faulty line, the name of template first, or the assertion's `kind=` line. They lie in that text,
+ * part[1] <= part[2] <= its length; no bytes at the end of the text for a missing line and for line 0, and at the plan's
+ * start where accepted.                                                                                               */
 void monitor_locate(const uint8_t *plan, size_t plan_len, const uint8_t *policy, size_t policy_len,
                     size_t part[MONITOR_PART_WORDS]);
 

@@ -1,6 +1,6 @@
 //! The proved label monitor and plan judge, over the static library that `rt staticlib embed` writes.
 //!
-//! [`judge`] and [`locate`] work on the two texts; [`Monitor::start`] gives a box, on which [`Monitor::step`],
+//! [`judge`], [`locate`] and [`show`] work on the two texts; [`Monitor::start`] gives a box, on which [`Monitor::step`],
 //! [`Monitor::send`], [`Monitor::raise`] and [`Monitor::lower`] are the calls. No value makes a call go wrong: each is
 //! proved for any memory whatever, so that a [`Monitor`] may also be filled by hand.
 
@@ -175,6 +175,16 @@ pub fn locate(plan: &[u8], policy: &[u8]) -> Part {
         start: words[1],
         end: words[2],
     }
+}
+
+/// Judges the two texts; the part that the verdict shows, as a part of the text itself. Empty it lies where [`locate`] says.
+pub fn show<'a>(plan: &'a [u8], policy: &'a [u8]) -> &'a [u8] {
+    let part = locate(plan, policy);
+    let text = match part.text {
+        Text::Plan => plan,
+        Text::Policy => policy,
+    };
+    &text[part.start..part.end]
 }
 
 /// Judges the two texts, starts the box and runs the words of calls through it, three to a call. The answers go to the

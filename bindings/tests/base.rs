@@ -1,7 +1,8 @@
 // The base plan of document 01 through the safe wrapper.
-use monitor::{judge, locate, replay, Answer, Call, Monitor, Part, Text, Verdict};
+use monitor::{judge, locate, replay, show, Answer, Call, Monitor, Part, Text, Verdict};
 
 const PLAN: &[u8] = include_bytes!("../../examples/base/plan.txt");
+const PLAN_C: &[u8] = include_bytes!("../../examples/c/plan.txt");
 const POLICY: &[u8] = include_bytes!("../../examples/base/policy.txt");
 const POLICY_B: &[u8] = include_bytes!("../../examples/b/policy.txt");
 
@@ -76,28 +77,31 @@ fn verdicts() {
     );
 }
 
+/// The part shown lies in that text from `start` on, and has these bytes.
+fn shows(plan: &[u8], policy: &[u8], text: Text, start: usize, bytes: &[u8]) {
+    let end = start + bytes.len();
+    assert_eq!(locate(plan, policy), Part { text, start, end });
+    let whole = match text {
+        Text::Plan => plan,
+        Text::Policy => policy,
+    };
+    let shown = show(plan, policy);
+    assert_eq!(shown, bytes);
+    assert_eq!(shown.as_ptr() as usize - whole.as_ptr() as usize, start);
+}
+
 #[test]
 fn parts() {
-    assert_eq!(
-        locate(PLAN, POLICY),
-        Part {
-            text: Text::Plan,
-            start: 0,
-            end: 0
-        }
-    );
-    let part = locate(PLAN, POLICY_B);
-    assert_eq!(part.text, Text::Policy);
-    assert_eq!(&POLICY_B[part.start..part.end], b"kind=secrecy");
-    let long = vec![b'x'; 20_000];
-    assert_eq!(
-        locate(&long, POLICY),
-        Part {
-            text: Text::Plan,
-            start: 20_000,
-            end: 20_000
-        }
-    );
+    let long = vec![b'x'; 16_385];
+    let header = b"templates=4\nidentifiers=1\n";
+    shows(PLAN, POLICY, Text::Plan, 0, b"");
+    shows(PLAN, POLICY_B, Text::Policy, 13, b"kind=secrecy");
+    shows(PLAN_C, POLICY, Text::Plan, 196, b"split");
+    shows(&long, POLICY, Text::Plan, long.len(), b"");
+    shows(PLAN, &long, Text::Policy, long.len(), b"");
+    shows(header, POLICY, Text::Plan, header.len(), b"");
+    shows(PLAN, b"", Text::Policy, 0, b"");
+    shows(PLAN, b"assertions=33\n", Text::Policy, 0, b"assertions=33");
 }
 
 #[test]

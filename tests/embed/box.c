@@ -14,6 +14,12 @@ static const char plan[] = "templates=4\nidentifiers=1\n"
                            "name=split\nform=both:1,3\nlab=00000001\npos=00000001\nneg=00000001\ncreates=00000001\nrisk=0\n"
                            "name=reader\nform=end\nlab=00000001\npos=00000000\nneg=00000000\ncreates=00000000\nrisk=1\n";
 static const char policy[] = "assertions=1\nkind=secrecy\nsource=3\nsink=3\nanc=3\ndeclass=0000000000000007\n";
+/* Case c: lab of 3 zero. */
+static const char plan_c[] = "templates=4\nidentifiers=1\n"
+                             "name=boot\nform=go:1\nlab=00000000\npos=00000000\nneg=00000001\ncreates=00000000\nrisk=0\n"
+                             "name=hub\nform=go:2\nlab=00000000\npos=00000000\nneg=00000001\ncreates=00000000\nrisk=0\n"
+                             "name=split\nform=both:1,3\nlab=00000001\npos=00000001\nneg=00000001\ncreates=00000001\nrisk=0\n"
+                             "name=reader\nform=end\nlab=00000000\npos=00000000\nneg=00000000\ncreates=00000000\nrisk=1\n";
 /* Case b: declass 6. */
 static const char policy_b[] = "assertions=1\nkind=secrecy\nsource=3\nsink=3\nanc=3\ndeclass=0000000000000006\n";
 
@@ -78,18 +84,38 @@ static void verdicts(void) {
     static const uint32_t case_b[5] = {MONITOR_BROKEN, 17, 0, 3, 255};
     static const uint32_t no_template[5] = {MONITOR_UNREAD, MONITOR_PLAN_TEXT, 3, 1, 0};
     uint32_t verdict[5];
-    size_t part[3];
     monitor_judge(TEXT(plan), TEXT(policy), verdict);
     expect(memcmp(verdict, accepted, sizeof verdict) == 0, "case a is accepted");
     monitor_judge(TEXT(plan), TEXT(policy_b), verdict);
     expect(memcmp(verdict, case_b, sizeof verdict) == 0, "case b is broken 17, 0, 3, 255");
     monitor_judge(TEXT("templates=0\n"), TEXT(policy), verdict);
     expect(memcmp(verdict, no_template, sizeof verdict) == 0, "templates=0 is unread 3, line 1");
-    monitor_locate(TEXT(plan), TEXT(policy_b), part);
-    expect(part[0] == MONITOR_POLICY_TEXT && part[1] == 13 && part[2] == 25, "case b shows its kind= line");
-    expect(memcmp(policy_b + part[1], "kind=secrecy", part[2] - part[1]) == 0, "and that is kind=secrecy");
-    monitor_locate(TEXT("templates=0\n"), TEXT(policy), part);
-    expect(part[0] == MONITOR_PLAN_TEXT && part[1] == 0 && part[2] == 11, "templates=0 shows its line");
+}
+
+/* The part shown lies in that text from start on, and has these bytes. */
+static void shows(const uint8_t *p, size_t p_len, const uint8_t *q, size_t q_len, size_t text, size_t start,
+                  const char *bytes, const char *what) {
+    const uint8_t *texts[2] = {p, q};
+    const size_t lengths[2] = {p_len, q_len};
+    size_t part[3] = {9, 9, 9};
+    monitor_locate(p, p_len, q, q_len, part);
+    expect(part[0] == text && part[1] == start && part[2] == start + strlen(bytes), what);
+    expect(part[0] < 2 && part[1] <= part[2] && part[2] <= lengths[text], "the part lies in its text");
+    expect(memcmp(texts[text] + start, bytes, strlen(bytes)) == 0, "and has its bytes");
+}
+
+static void parts(void) {
+    static const char header[] = "templates=4\nidentifiers=1\n";
+    static uint8_t too_long[16385];
+    memset(too_long, 'x', sizeof too_long);
+    shows(TEXT(plan), TEXT(policy), MONITOR_PLAN_TEXT, 0, "", "accepted: the empty part at the plan's start");
+    shows(TEXT(plan), TEXT(policy_b), MONITOR_POLICY_TEXT, 13, "kind=secrecy", "case b shows its kind= line");
+    shows(TEXT(plan_c), TEXT(policy), MONITOR_PLAN_TEXT, 196, "split", "case c shows the name of template 2");
+    shows(TEXT("templates=0\n"), TEXT(policy), MONITOR_PLAN_TEXT, 0, "templates=0", "a faulty line");
+    shows(TEXT(header), TEXT(policy), MONITOR_PLAN_TEXT, sizeof header - 1, "", "a missing line is at the text's end");
+    shows(TEXT(plan), TEXT(""), MONITOR_POLICY_TEXT, 0, "", "and so in an empty text");
+    shows(too_long, sizeof too_long, TEXT(policy), MONITOR_PLAN_TEXT, sizeof too_long, "", "line 0 is at the text's end");
+    shows(TEXT(plan), too_long, sizeof too_long, MONITOR_POLICY_TEXT, sizeof too_long, "", "and so of the policy");
 }
 
 static void started(void) {
@@ -214,6 +240,7 @@ static void lists(void) {
 
 int main(void) {
     verdicts();
+    parts();
     started();
     case_a();
     bad_memory();

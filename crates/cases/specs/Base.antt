@@ -1,10 +1,12 @@
 -- The base plan and its neighbours (document 01), as the lines of their texts.
-use Prim.Native.Nat.{ℕ, _+_, _-_, _/_, _%_}
+use Prim.Native.Nat.{ℕ, zero, suc, _+_, _*_, _/_, _%_}
 use Prim.Native.String.{String}
+use mathlib.Core.Bool.{cond}
 use mathlib.Core.List.{List, [], _∷_, _++_}
-use lib.ListN.{set}
+use lib.ListN.{take}
 use Rattle.lists.specs.Numbers.{tabulate}
-use Rattle.scan.specs.Bytes.{bytes}
+use Rattle.scan.specs.Bytes.{bytes, before, startsWith}
+use Rattle.text.specs.Reading.{planHeader, templateLines, policyHeader, assertionLines}
 
 -- The bytes of lines, each ended by byte 10.
 unfoldable pub text : List String → List ℕ
@@ -20,23 +22,52 @@ basePlan =
     ∷ "name=reader" ∷ "form=end" ∷ "lab=00000001" ∷ "pos=00000000" ∷ "neg=00000000" ∷ "creates=00000000" ∷ "risk=1"
     ∷ []
 
+-- Its templates by name.
+abbrev pub boot : ℕ
+boot = 0
+
+abbrev pub hub : ℕ
+hub = 1
+
+abbrev pub split : ℕ
+split = 2
+
+abbrev pub reader : ℕ
+reader = 3
+
 unfoldable pub basePolicy : List String
 basePolicy = "assertions=1" ∷ "kind=secrecy" ∷ "source=3" ∷ "sink=3" ∷ "anc=3" ∷ "declass=0000000000000007" ∷ []
 
--- The lines with another one in the place of line k, the first line being 1.
-unfoldable pub changed : ℕ → String → List String → List String
-changed k line lines = set lines (k - 1) line
+-- The key of a line, with its equals sign.
+unfoldable pub keyOf : String → List ℕ
+keyOf line = take (before 61 (bytes line) + 1) (bytes line)
+
+-- The lines with this one in the place of the first that has its key, after so many lines.
+unfoldable pub changedAfter : ℕ → String → List String → List String
+changedAfter n line [] = []
+changedAfter zero line (old ∷ rest) = cond (startsWith (keyOf line) (bytes old)) (line ∷ rest) (old ∷ changedAfter zero line rest)
+changedAfter (suc n) line (old ∷ rest) = old ∷ changedAfter n line rest
+
+-- So before the templates and the assertions, in template X, in assertion i.
+abbrev pub heading : String → List String → List String
+heading = changedAfter 0
+
+abbrev pub changing : ℕ → String → List String → List String
+changing X = changedAfter (planHeader + templateLines * X)
+
+abbrev pub asserting : ℕ → String → List String → List String
+asserting i = changedAfter (policyHeader + assertionLines * i)
 
 -- The base policy with a prot added.
 unfoldable pub withProt : String → String → String → List String
-withProt source sink anc = changed 1 "assertions=2" basePolicy ++ ("kind=prot" ∷ source ∷ sink ∷ anc ∷ "declass=0000000000000000" ∷ [])
+withProt source sink anc = heading "assertions=2" basePolicy ++ ("kind=prot" ∷ source ∷ sink ∷ anc ∷ "declass=0000000000000000" ∷ [])
 
 -- Case d, and case e, which adds pos of 0 and 1.
 unfoldable pub planD : List String
-planD = changed 22 "creates=00000000" basePlan
+planD = changing split "creates=00000000" basePlan
 
 unfoldable pub planE : List String
-planE = changed 6 "pos=00000001" (changed 13 "pos=00000001" planD)
+planE = changing boot "pos=00000001" (changing hub "pos=00000001" planD)
 
 -- A plan of 64 templates, their names two letters from aa on.
 unfoldable pub fullPlan : List ℕ

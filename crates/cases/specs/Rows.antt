@@ -11,7 +11,7 @@ use Rattle.machine.specs.declared.Answer.the-variants.{Done, Delivered, Held, R
 use Rattle.machine.specs.Machine.{Process, Machine, boxLimits, Call, step, send, raise, run}
 use Rattle.machine.specs.State.{started}
 use Rattle.promise.specs.Replay.{machineAfter}
-use Rattle.cases.specs.Base.{text, basePlan, basePolicy, changed, withProt, planD, planE, fullPlan}
+use Rattle.cases.specs.Base.{text, basePlan, reader, basePolicy, heading, changing, asserting, withProt, planD, planE, fullPlan}
 
 -- What is asked: the verdict on two texts, the answer to a call after a list of calls from the started base box, what
 -- such a list leaves, or whether a plan text reads.
@@ -68,8 +68,8 @@ infix 10 _gives_
 unfoldable pub rows : List Row
 rows =
     (verdictOn (text basePlan) (text basePolicy) gives accepted)  -- a
-    ∷ (verdictOn (text basePlan) (text (changed 6 "declass=0000000000000006" basePolicy)) gives broken 17 0 3 255)  -- b
-    ∷ (verdictOn (text (changed 26 "lab=00000000" basePlan)) (text basePolicy) gives broken 13 2 3 0)  -- c
+    ∷ (verdictOn (text basePlan) (text (asserting 0 "declass=0000000000000006" basePolicy)) gives broken 17 0 3 255)  -- b
+    ∷ (verdictOn (text (changing reader "lab=00000000" basePlan)) (text basePolicy) gives broken 13 2 3 0)  -- c
     ∷ (verdictOn (text planD) (text basePolicy) gives broken 14 1 2 0)  -- d
     ∷ (verdictOn (text planE) (text basePolicy) gives broken 17 0 3 255)  -- e
     ∷ (verdictOn (text basePlan) (text (withProt "source=3" "sink=3" "anc=0")) gives broken 19 1 3 0)  -- f
@@ -85,7 +85,7 @@ rows =
     ∷ (answerTo runOfA (step 6 1) gives answers (Refused 22))
     ∷ (answerTo runOfA (send 7 7) gives answers (Refused 26))
     ∷ (answerTo runOfA (raise 7 1) gives answers (Refused 27))
-    ∷ (verdictOn (text (changed 1 "templates=0" basePlan)) (text basePolicy) gives unread "plan" 3 1)
-    ∷ (verdictOn (text (changed 1 "templates=65" basePlan)) (text basePolicy) gives unread "plan" 3 1)
+    ∷ (verdictOn (text (heading "templates=0" basePlan)) (text basePolicy) gives unread "plan" 3 1)
+    ∷ (verdictOn (text (heading "templates=65" basePlan)) (text basePolicy) gives unread "plan" 3 1)
     ∷ (readingOf fullPlan gives reads Complete)
     ∷ []

@@ -8,3 +8,4 @@ pub mod Live
 pub mod Range
 pub mod PolicyRange
 pub mod Names
+pub mod Places

@@ -2,44 +2,30 @@
 -- and what is true of every value of a field is true of the line's.
 use Prim.Native.Nat.{ℕ, _≤_, _<_}
 use Prim.Native.String.{String}
-use mathlib.Core.Path.{_≡_, refl}
+use mathlib.Core.Path.{_≡_}
 use mathlib.Core.Bool.{Bool, true, false, cond}
 use mathlib.Core.List.{List}
 use native.Mathlib.Omega.{arith}
 use lib.Dec.{leb}
 use lib.ListN.{length}
-use Rattle.scan.specs.Bytes.{bytes}
-use Rattle.field.specs.Fields.{Field, is, bad, andThen, number, templateNumber}
+use Rattle.field.specs.Fields.{Field, is, number, templateNumber}
 use Rattle.field.proofs.Each.{Each, number-range}
-use Rattle.text.specs.Reading.{longest, Cursor, on, stopped, afterKey, settle, line, closed, checked, ifComplete}
+use Rattle.text.specs.Reading.{longest, Cursor, on, stopped, line, closed, checked, ifComplete}
+use Rattle.text.proofs.Passed.{Live, fieldAfter, line-read}
 use Rattle.text.specs.declared.Reading.the-variants.{Complete, Refused}
 
--- Reading has not stopped.
-abbrev pub Live : Cursor → Type 0
-Live (on text k) = Unit
-Live (stopped n k) = ⊥
-
 -- A line after which reading has not stopped was not stopped before, and its value was read from some field.
-pub line-read : {A : Type 0} (empty : A) (key : String) (read : List ℕ → Field A) (c : Cursor)
+pub line-from : {A : Type 0} (empty : A) (key : String) (read : List ℕ → Field A) (c : Cursor)
     → Live (line empty key read c .next) → Live c × ((s : List ℕ) × (read s ≡ is (line empty key read c .value)))
-unfolding line settle andThen
-line-read {A} empty key read (stopped n k) h = absurd h
-line-read {A} empty key read (on text k) h = (tt, outer (afterKey (bytes key) text) h)
-  where
-    inner : (x : Field A) → Live (settle empty text k x .next) → x ≡ is (settle empty text k x .value)
-    inner (is v) g = refl
-    inner (bad n) g = absurd g
-
-    outer : (x : Field (List ℕ)) → Live (settle empty text k (andThen x read) .next)
-        → (s : List ℕ) × (read s ≡ is (settle empty text k (andThen x read) .value))
-    outer (is s) g = (s, inner (read s) g)
-    outer (bad n) g = absurd g
+unfolding line
+line-from empty key read (stopped n k) live = absurd live
+line-from empty key read (on text k) live = (tt, (fieldAfter key text, line-read empty key read text k live .2))
 
 -- The same for what is true of every field; so for a number and for a template's number.
 pub line-each : {A : Type 0} (P : A → Type 0) (empty : A) (key : String) (read : List ℕ → Field A) → ((s : List ℕ) → Each P (read s))
     → (c : Cursor) → Live (line empty key read c .next) → Live c × P (line empty key read c .value)
 line-each P empty key read h c live =
-    let r = line-read empty key read c live in
+    let r = line-from empty key read c live in
     (r .0, h (r .1 .0) (line empty key read c .value) (r .1 .1))
 
 pub count-line : (low limit : ℕ) (key : String) (c : Cursor) → Live (line 0 key (number 3 low limit) c .next)

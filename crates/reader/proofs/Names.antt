@@ -13,7 +13,8 @@ use Rattle.text.specs.Reading.{Cursor, on, line, entry, entries, plan, readPlan
 use Rattle.text.specs.declared.Reading.the-variants.{Complete}
 use Rattle.reader.specs.Names.{names, planNames, Distinct}
 use Rattle.reader.proofs.Rows.{row-cons}
-use Rattle.reader.proofs.Live.{Live, checked-live}
+use Rattle.text.proofs.Passed.{Live}
+use Rattle.reader.proofs.Live.{checked-live}
 use Rattle.reader.proofs.Range.{entry-fine, entries-fine}
 
 same-self : (s : List ℕ) → same s s ≡ true

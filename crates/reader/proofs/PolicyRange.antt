@@ -17,7 +17,8 @@ use Rattle.field.proofs.Each.{Each, each-is, each-bad, each-if, each-then, mask
 use Rattle.text.specs.Reading.{Cursor, on, line, assertion, assertions, policy, noPolicy, readPolicy}
 use Rattle.text.specs.declared.Reading.the-variants.{Complete}
 use Rattle.reader.proofs.Rows.{row-full, row-past, row-cons}
-use Rattle.reader.proofs.Live.{Live, line-read, line-each, count-line, template-line, complete-holds}
+use Rattle.text.proofs.Passed.{Live}
+use Rattle.reader.proofs.Live.{line-from, line-each, count-line, template-line, complete-holds}
 
 declass-range : (N : ℕ) (k : Kind) (source sink : ℕ) (s : List ℕ) → Each (λ d. (d < 2 ^ N) × (misplaced k source sink d ≡ false)) (declass N k source sink s)
 unfolding declass
@@ -44,7 +45,7 @@ assertion-fine N c live =
     let anc-line = template-line N "anc=" (sinks .next) (declass-line .0) in
     let sink-line = template-line N "sink=" (sources .next) (anc-line .0) in
     let source-line = template-line N "source=" (kinds .next) (sink-line .0) in
-    let kind-line = line-read Secrecy "kind=" kind c (source-line .0) in (
+    let kind-line = line-from Secrecy "kind=" kind c (source-line .0) in (
       kind-line .0,
       record {
         source = source-line .1;
@@ -55,7 +56,7 @@ assertion-fine N c live =
       },
     )
 
-assertions-fine : (N : ℕ) (more : ℕ) (c : Cursor) → Live (assertions N more c .next)
+pub assertions-fine : (N : ℕ) (more : ℕ) (c : Cursor) → Live (assertions N more c .next)
     → Live c × (length (assertions N more c .value) ≡ more) × ((i : ℕ) → i < more → AssertionInRange N (getD (assertions N more c .value) i blankAssertion))
 unfolding assertions
 assertions-fine N zero c live = (live, refl, λ i h. absurd (omega arith))

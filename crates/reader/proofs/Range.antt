@@ -22,7 +22,8 @@ use Rattle.text.specs.declared.Reading.the-variants.{Complete}
 use Rattle.reader.specs.Rows.{maskKeys, maskLines, entryLines}
 use Rattle.reader.proofs.Rows.{row-full, row-past, row-cons}
 use Rattle.reader.proofs.Masks.{entry-same}
-use Rattle.reader.proofs.Live.{Live, line-read, line-each, count-line, complete-holds}
+use Rattle.text.proofs.Passed.{Live}
+use Rattle.reader.proofs.Live.{line-from, line-each, count-line, complete-holds}
 
 -- ---- a form's field
 
@@ -86,7 +87,7 @@ lines-fine N M stood c live =
     let c₁ = line [] "name=" (name stood) c .next in
     let c₂ = line End "form=" (form N) c₁ .next in
     let c₃ = maskLines M maskKeys c₂ .next in
-    let risk-line = line-read false "risk=" risk c₃ live in
+    let risk-line = line-from false "risk=" risk c₃ live in
     let mask-lines = masks-below M maskKeys c₂ (risk-line .0) in
     let form-line = line-each (Onward N) End "form=" (form N) (form-range N) c₁ (mask-lines .0) in
     let name-line = line-each (λ n. standsIn n stood ≡ false) [] "name=" (name stood) (name-new stood) c (form-line .0) in

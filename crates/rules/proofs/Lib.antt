@@ -3,3 +3,4 @@ pub mod Created
 pub mod Edges
 pub mod Assertions
 pub mod Exact
+pub mod First

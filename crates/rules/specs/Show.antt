@@ -1,24 +1,12 @@
--- Where the shown part lies (document 01, "Showing").
+-- The shown part: its text, start and end, its bytes, and where it lies (document 01, "Showing").
 -- Believed: everything here. Proved against it: crate showing.
 use Prim.Native.Nat.{ℕ, zero, suc, _+_, _-_, _*_}
 use mathlib.Core.{Bool.{cond, _||_}, List.{List}}
 use lib.{Dec.{eqb, ltb}, ListN.{length, take, drop}}
-use Rattle.scan.specs.Bytes.{bytes, before}
+use Rattle.scan.specs.Bytes.{bytes, before, further}
+use Rattle.text.specs.Reading.{planHeader, templateLines, policyHeader, assertionLines}
 use Rattle.rules.specs.declared.Part.{Part}
 use Rattle.rules.specs.Judge.{Text, PlanText, PolicyText, Verdict, Accepted, Broken, Unread, isEdgeRule, judge}
-
--- How many lines stand before the first template, in each template, before the first assertion, in each assertion.
-abbrev pub planHeader : ℕ
-planHeader = 2
-
-abbrev pub templateLines : ℕ
-templateLines = 7
-
-abbrev pub policyHeader : ℕ
-policyHeader = 1
-
-abbrev pub assertionLines : ℕ
-assertionLines = 5
 
 -- Where the line after so many lines begins, counted from `start`; the text's end where it is missing.
 unfoldable pub lineStart : ℕ → ℕ → List ℕ → ℕ
@@ -36,7 +24,7 @@ unfoldable pub faultyLine : ℕ → List ℕ → ℕ
 faultyLine zero text = length text
 faultyLine (suc k) text = lineStart k 0 text
 
-abbrev pub textOf : Text → List ℕ → List ℕ → List ℕ
+abbrev pub textOf : {A : Type 0} → Text → A → A → A
 textOf PlanText planText policyText = planText
 textOf PolicyText planText policyText = policyText
 
@@ -64,11 +52,17 @@ located (Unread f) planText policyText =
     let start = faultyLine (f .line) text in
     from (f .text) start (lineEnd start text)
 
--- "Showing takes the texts, judges them": where the part lies, and the bytes between.
+-- The bytes of a part.
+unfoldable pub within : Part → List ℕ → List ℕ → List ℕ
+within part planText policyText = take (part .end - part .start) (drop (part .start) (textOf (part .text) planText policyText))
+
+-- Where it lies, the texts lying at p and q.
+unfoldable pub lying : Part → ℕ × ℕ → ℕ × ℕ → ℕ × ℕ
+lying part p q = further (part .start) (textOf (part .text) p q)
+
+-- "Showing takes the texts, judges them": the part, and the bytes between its numbers.
 unfoldable pub locate : List ℕ → List ℕ → Part
 locate planText policyText = located (judge planText policyText) planText policyText
 
 unfoldable pub shown : List ℕ → List ℕ → List ℕ
-shown planText policyText =
-    let part = locate planText policyText in
-    take (part .end - part .start) (drop (part .start) (textOf (part .text) planText policyText))
+shown planText policyText = within (locate planText policyText) planText policyText

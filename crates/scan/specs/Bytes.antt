@@ -1,6 +1,6 @@
 -- Bytes of a text: a text is the list of its bytes.
 -- Believed: everything here. Proved against it: crate scan.
-use Prim.Native.{Nat.{ℕ, zero, suc}, Char.{code}, String.{String, [], _∷_}}
+use Prim.Native.{Nat.{ℕ, zero, suc, _+_}, Char.{code}, String.{String, [], _∷_}}
 use mathlib.Core.{Bool.{Bool, true, false, cond, _&&_, _||_}, List.{List, [] as []ᴸ, _∷_ as _∷ᴸ_}}
 use lib.Dec.{eqb}
 
@@ -31,3 +31,7 @@ same (x ∷ᴸ s) (y ∷ᴸ t) = eqb x y && same s t
 unfoldable pub standsIn : List ℕ → List (List ℕ) → Bool
 standsIn s []ᴸ = false
 standsIn s (t ∷ᴸ rest) = same s t || standsIn s rest
+
+-- Where the byte lies that stands k bytes further than the one at p: a block, and an offset in it.
+abbrev pub further : ℕ → ℕ × ℕ → ℕ × ℕ
+further k p = (p .0, k + p .1)

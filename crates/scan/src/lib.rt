@@ -1,8 +1,8 @@
 // Bytes of a lent text: looking for one, comparing some, lending some on.
 ghost use mathlib.Core.Path.{_≡_};
-ghost use Prim.Native.Nat.{_-_};
-ghost use lib.ListN.{take, drop};
-ghost use Rattle.scan.specs.Bytes.{before, startsWith, same};
+ghost use Prim.Native.Nat.{_-_, min};
+ghost use lib.ListN.{length, take, drop};
+ghost use Rattle.scan.specs.Bytes.{before, startsWith, same, further};
 
 // How many bytes of s stand before the first b; all of them where there is none.
 pub fn find(s: &[u8], b: u8) -> usize
@@ -52,16 +52,18 @@ pub fn same_bytes(s: &[u8], t: &[u8]) -> bool
     true
 }
 
-// The bytes from start to end, those of them that the text has.
+// The bytes from start to end, those of them that the text has. An empty part, too, lies at its start, or at the text's end
+// where the start is past it.
 pub fn part<'a>(text: &'a [u8], start: usize, end: usize) -> &'a [u8]
     ensures { λ r. ⌜ now r ≡ take (end - start) (drop start (now (text .entry))) ⌝ }
+    ensures place { λ r. ⌜ r .ptr ≡ further (min start (length (now (text .entry)))) (text .entry .ptr) ⌝ }
 {
     let n = text.len();
-    if end <= start {
-        return &text[0..0];
-    }
     if n <= start {
-        return &text[0..0];
+        return &text[n..n];
+    }
+    if end <= start {
+        return &text[start..start];
     }
     if n <= end {
         return &text[start..n];

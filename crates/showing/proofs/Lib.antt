@@ -1,2 +1,4 @@
 pub mod Lines
 pub mod Parts
+pub mod Names
+pub mod Inside

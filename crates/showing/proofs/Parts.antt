@@ -1,10 +1,10 @@
 -- The part that a verdict shows: where it lies, and its bytes.
-use Prim.Native.Nat.{ℕ, _+_, _-_, _*_}
+use Prim.Native.Nat.{ℕ, _+_, _-_, _*_, min}
 use mathlib.Core.Path.{_≡_, sym, ap, ap₂, _∙_}
 use mathlib.Core.Bool.{Bool, true, false, cond, _||_}
 use mathlib.Core.List.{List}
 use lib.Dec.{eqb}
-use lib.ListN.{take, drop}
+use lib.ListN.{length, take, drop}
 use Rattle.rules.specs.declared.Text.{Text}
 use Rattle.rules.specs.declared.Text.the-variants.{Plan as PlanText, Policy as PolicyText}
 use Rattle.rules.specs.declared.Fault.{Fault}
@@ -12,18 +12,20 @@ use Rattle.rules.specs.declared.Breach.{Breach}
 use Rattle.rules.specs.declared.Verdict.{Verdict}
 use Rattle.rules.specs.declared.Verdict.the-variants.{Accepted, Broken, Unread}
 use Rattle.rules.specs.declared.Part.{Part}
-use Rattle.rules.specs.Show.{from, textOf, lineStart, lineEnd, faultyLine, nameOf, kindLine, located, locate, shown}
+use Rattle.scan.specs.Bytes.{further}
+use Rattle.text.specs.Reading.{planHeader, templateLines, policyHeader, assertionLines}
+use Rattle.rules.specs.Show.{from, textOf, lineStart, lineEnd, faultyLine, nameOf, kindLine, located, within, locate, shown}
 use Rattle.rules.specs.Judge.{isEdgeRule, judge}
-use Rattle.showing.specs.Bytes.{within}
+use Rattle.showing.specs.Places.{nearest}
 
 -- ---- where it lies
 
-pub name-lies : (X start end : ℕ) (plan : List ℕ) → start ≡ lineStart (2 + 7 * X) 0 plan → end ≡ lineEnd start plan
+pub name-lies : (X start end : ℕ) (plan : List ℕ) → start ≡ lineStart (planHeader + templateLines * X) 0 plan → end ≡ lineEnd start plan
     → from PlanText (start + 5) end ≡ nameOf X plan
 unfolding nameOf
 name-lies X start end plan e h = ap₂ (λ (s t : ℕ). from PlanText (s + 5) t) e (h ∙ ap (λ (s : ℕ). lineEnd s plan) e)
 
-pub kind-lies : (i start end : ℕ) (policy : List ℕ) → start ≡ lineStart (1 + 5 * i) 0 policy → end ≡ lineEnd start policy
+pub kind-lies : (i start end : ℕ) (policy : List ℕ) → start ≡ lineStart (policyHeader + assertionLines * i) 0 policy → end ≡ lineEnd start policy
     → from PolicyText start end ≡ kindLine i policy
 unfolding kindLine
 kind-lies i start end policy e h = ap₂ (from PolicyText) e (h ∙ ap (λ (s : ℕ). lineEnd s policy) e)
@@ -67,20 +69,31 @@ module _ (plan policy : List ℕ) where
     pub unread-lies : (f : Fault) (r : Part) → v ≡ Unread f → r ≡ located (Unread f) plan policy → r ≡ located v plan policy
     unread-lies f r e k = k ∙ sym (ap (λ (x : Verdict). located x plan policy) e)
 
--- ---- its bytes
+-- ---- its bytes, and where they lie
 
-module _ (plan policy : List ℕ) (p q : Part) (e : p ≡ q) (r : List ℕ) where
-  pub bytes-plan : p .text ≡ PlanText → r ≡ take (p .end - p .start) (drop (p .start) plan) → r ≡ within q plan policy
+module _ (plan policy : List ℕ) (p q : Part) (e : p ≡ q) where
+  bytes-there : (text r : List ℕ) → text ≡ textOf (p .text) plan policy → r ≡ take (p .end - p .start) (drop (p .start) text) → r ≡ within q plan policy
   unfolding within
-  bytes-plan t h =
-      h ∙ ap (λ (x : List ℕ). take (p .end - p .start) (drop (p .start) x)) (sym (ap (λ (x : Text). textOf x plan policy) t))
-      ∙ ap (λ (x : Part). take (x .end - x .start) (drop (x .start) (textOf (x .text) plan policy))) e
+  bytes-there text r t h = h ∙ ap (λ (x : List ℕ). take (p .end - p .start) (drop (p .start) x)) t ∙ ap (λ (x : Part). within x plan policy) e
 
-  pub bytes-policy : p .text ≡ PolicyText → r ≡ take (p .end - p .start) (drop (p .start) policy) → r ≡ within q plan policy
-  unfolding within
-  bytes-policy t h =
-      h ∙ ap (λ (x : List ℕ). take (p .end - p .start) (drop (p .start) x)) (sym (ap (λ (x : Text). textOf x plan policy) t))
-      ∙ ap (λ (x : Part). take (x .end - x .start) (drop (x .start) (textOf (x .text) plan policy))) e
+  pub bytes-plan : (r : List ℕ) → p .text ≡ PlanText → r ≡ take (p .end - p .start) (drop (p .start) plan) → r ≡ within q plan policy
+  bytes-plan r t = bytes-there plan r (sym (ap (λ (x : Text). textOf x plan policy) t))
+
+  pub bytes-policy : (r : List ℕ) → p .text ≡ PolicyText → r ≡ take (p .end - p .start) (drop (p .start) policy) → r ≡ within q plan policy
+  bytes-policy r t = bytes-there policy r (sym (ap (λ (x : Text). textOf x plan policy) t))
+
+  module _ (a b r : ℕ × ℕ) where
+    pub lies-plan : p .text ≡ PlanText → r ≡ further (min (p .start) (length plan)) a → r ≡ nearest q plan policy a b
+    unfolding nearest
+    lies-plan t h =
+        h ∙ sym (ap (λ (x : Text). further (min (p .start) (length (textOf x plan policy))) (textOf x a b)) t)
+        ∙ ap (λ (x : Part). nearest x plan policy a b) e
+
+    pub lies-policy : p .text ≡ PolicyText → r ≡ further (min (p .start) (length policy)) b → r ≡ nearest q plan policy a b
+    unfolding nearest
+    lies-policy t h =
+        h ∙ sym (ap (λ (x : Text). further (min (p .start) (length (textOf x plan policy))) (textOf x a b)) t)
+        ∙ ap (λ (x : Part). nearest x plan policy a b) e
 
 -- ---- the judge's own verdict
 
@@ -89,5 +102,5 @@ unfolding locate
 judged-lies plan policy v r e h = h ∙ ap (λ (x : Verdict). located x plan policy) e
 
 pub judged-bytes : (plan policy : List ℕ) (v : Verdict) (r : List ℕ) → v ≡ judge plan policy → r ≡ within (located v plan policy) plan policy → r ≡ shown plan policy
-unfolding shown locate within
+unfolding shown locate
 judged-bytes plan policy v r e h = h ∙ ap (λ (x : Verdict). within (located x plan policy) plan policy) e

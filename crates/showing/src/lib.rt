@@ -7,17 +7,8 @@ ghost use mathlib.Core.Path.{_≡_};
 ghost use Prim.Native.Nat.{_≤_};
 ghost use lib.ListN.{length};
 ghost use Rattle.rules.specs.declared.Verdict.the-variants.{Unread};
-ghost use Rattle.rules.specs.Show.{lineStart, lineEnd, faultyLine, nameOf, kindLine, located, locate, shown};
-ghost use Rattle.showing.specs.Bytes.{within};
-
-// How many lines stand before the first template, in each template, before the first assertion, in each assertion.
-const PLAN_HEADER: usize = 2;
-
-const TEMPLATE_LINES: usize = 7;
-
-const POLICY_HEADER: usize = 1;
-
-const ASSERTION_LINES: usize = 5;
+ghost use Rattle.rules.specs.Show.{lineStart, lineEnd, faultyLine, nameOf, kindLine, located, within, lying, locate, shown};
+ghost use Rattle.showing.specs.Places.{nearest};
 
 // The length of the key `name=`.
 const NAME_KEY: usize = 5;
@@ -63,7 +54,10 @@ fn faulty_line(text: &[u8], line: u32) -> usize
 fn name_part(plan: &[u8], x: u8) -> Part
     ensures { λ r. ⌜ r ≡ nameOf x (now (plan .entry)) ⌝ }
 {
-    let start = line_start(plan, PLAN_HEADER + TEMPLATE_LINES * (x as usize));
+    let start = line_start(
+        plan,
+        text::PLAN_HEADER + text::TEMPLATE_LINES * (x as usize),
+    );
     let end = line_end(plan, start);
     Part {
         text: Text::Plan,
@@ -76,7 +70,10 @@ fn name_part(plan: &[u8], x: u8) -> Part
 fn kind_part(policy: &[u8], i: u8) -> Part
     ensures { λ r. ⌜ r ≡ kindLine i (now (policy .entry)) ⌝ }
 {
-    let start = line_start(policy, POLICY_HEADER + ASSERTION_LINES * (i as usize));
+    let start = line_start(
+        policy,
+        text::POLICY_HEADER + text::ASSERTION_LINES * (i as usize),
+    );
     let end = line_end(policy, start);
     Part {
         text: Text::Policy,
@@ -127,6 +124,7 @@ pub fn locate_verdict(plan: &[u8], policy: &[u8], verdict: Verdict) -> Part
 // The part that a verdict on the texts shows: the caller's own bytes, of the text that the verdict chooses.
 pub fn show_verdict<'a>(plan: &'a [u8], policy: &'a [u8], verdict: Verdict) -> &'a [u8]
     ensures { λ r. ⌜ now r ≡ within (located verdict (now (plan .entry)) (now (policy .entry))) (now (plan .entry)) (now (policy .entry)) ⌝ }
+    ensures place { λ r. ⌜ r .ptr ≡ nearest (located verdict (now (plan .entry)) (now (policy .entry))) (now (plan .entry)) (now (policy .entry)) (plan .entry .ptr) (policy .entry .ptr) ⌝ }
 {
     let place = locate_verdict(plan, policy, verdict);
     let text = place.text;
@@ -149,9 +147,10 @@ pub fn locate<'a>(plan: &'a [u8], policy: &'a [u8]) -> Part
     locate_verdict(plan, policy, verdict::judge(plan, policy))
 }
 
-// and the part itself.
+// and the part itself, which lies there in the text.
 pub fn show<'a>(plan: &'a [u8], policy: &'a [u8]) -> &'a [u8]
     ensures { λ r. ⌜ now r ≡ shown (now (plan .entry)) (now (policy .entry)) ⌝ }
+    ensures place { λ r. ⌜ r .ptr ≡ lying (locate (now (plan .entry)) (now (policy .entry))) (plan .entry .ptr) (policy .entry .ptr) ⌝ }
 {
     show_verdict(plan, policy, verdict::judge(plan, policy))
 }

@@ -25,7 +25,7 @@ use Rattle.text.specs.declared.Line.{Line}
 use Rattle.text.specs.declared.Line.the-variants.{Open, Closed}
 
 -- The first line has its byte 10 and begins with the key.
-abbrev begins : List ℕ → List ℕ → Bool
+abbrev pub begins : List ℕ → List ℕ → Bool
 begins key s = ltb (before 10 s) (length s) && startsWith key (take (before 10 s) s)
 
 -- The definition's `line` is `keyed` with the bytes of its key.

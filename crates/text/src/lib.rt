@@ -78,6 +78,15 @@ pub enum Line {
 // Each text has at most 16,384 bytes (document 01, The two texts).
 pub const LONGEST: usize = 16384;
 
+// How many lines stand before the first template, in each template, before the first assertion, in each assertion.
+pub const PLAN_HEADER: usize = 2;
+
+pub const TEMPLATE_LINES: usize = 7;
+
+pub const POLICY_HEADER: usize = 1;
+
+pub const ASSERTION_LINES: usize = 5;
+
 // Whether a position is one of this text: in it, each line before it with a byte of its own, and the text not too long.
 pub fn is_standing(text: &[u8], at: usize, line: u32) -> bool
     ensures { λ r. ⌜ r ≡ stands (now (text .entry)) at line ⌝ }

@@ -1,5 +1,5 @@
--- An empty part, the rest of the text, or what lies between.
-use Rattle.scan.proofs.Parts.{part-empty, part-past, part-rest}
+-- The text's end, an empty part, the rest of the text, or what lies between.
+use Rattle.scan.proofs.Parts.{part-empty, part-past, part-rest, place-past, place-within}
 use borrow.Author.Needs.{needs}
 use Rattle.scan.proofs.part.Statement.{statement}
 use Rattle.scan.proofs.part.Tie as tie
@@ -14,7 +14,7 @@ part-result-end : tie.Need-part-result-end
 part-result-end c = search needs
 
 returns : tie.Need-returns
-returns c = search part-empty
+returns c = (search part-past, search place-past)
 
 sub-result-2 : tie.Need-sub-result-2
 sub-result-2 c = search needs
@@ -26,7 +26,7 @@ part-result-end-2 : tie.Need-part-result-end-2
 part-result-end-2 c = search needs
 
 returns-2 : tie.Need-returns-2
-returns-2 c = search part-past
+returns-2 c = (search part-empty, search place-within)
 
 sub-result-3 : tie.Need-sub-result-3
 sub-result-3 c = search needs
@@ -38,7 +38,7 @@ part-result-end-3 : tie.Need-part-result-end-3
 part-result-end-3 c = search needs
 
 returns-3 : tie.Need-returns-3
-returns-3 c = search part-rest
+returns-3 c = (search part-rest, search place-within)
 
 sub-result-4 : tie.Need-sub-result-4
 sub-result-4 c = search needs
@@ -50,7 +50,7 @@ part-result-end-4 : tie.Need-part-result-end-4
 part-result-end-4 c = search needs
 
 returns-4 : tie.Need-returns-4
-returns-4 c = search needs
+returns-4 c = (search needs, search place-within)
 
 pub part-spec : {M : Type 1} → statement M
 part-spec =

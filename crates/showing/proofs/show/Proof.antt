@@ -1,5 +1,6 @@
--- Of the judge's own verdict.
+-- Of the judge's own verdict, whose part lies in its text.
 use Rattle.showing.proofs.Parts.{judged-bytes}
+use Rattle.showing.proofs.Inside.{judged-place}
 use borrow.Author.Needs.{needs}
 use Rattle.showing.proofs.show.Statement.{statement}
 use Rattle.showing.proofs.show.Tie as tie
@@ -11,7 +12,7 @@ show-verdict-requires : tie.Need-show-verdict-requires
 show-verdict-requires c κs = search needs
 
 returns : tie.Need-returns
-returns c = search judged-bytes
+returns c = (search judged-bytes, search judged-place)
 
 pub show-spec : {M : Type 1} → statement M
 show-spec = tie.close (tie.spec judge-requires show-verdict-requires returns)

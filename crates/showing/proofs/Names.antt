@@ -1,0 +1,78 @@
+-- What is shown is what was read: the name of template X is the X-th name that reading read, and the line of assertion i is the one
+-- that its kind was read from.
+use Prim.Native.Nat.{ℕ, zero, suc, _+_, _-_, _*_, _≤_, _<_}
+use mathlib.Core.Path.{_≡_, refl, sym, ap, _∙_}
+use mathlib.Core.Bool.{Bool, true, false, cond}
+use mathlib.Core.List.{List, []}
+use native.Mathlib.Omega.{arith}
+use lib.Dec.{ltb}
+use lib.ListN.{length, getD, take, drop, drop-of-length-le}
+use lib.Seq.{drop-drop}
+use borrow.Author.Tests.{ltb-false}
+use Rattle.scan.specs.Bytes.{bytes, before, startsWith}
+use Rattle.scan.proofs.Parts.{drop-take}
+use Rattle.plan.specs.Plan.{assertionAt}
+use Rattle.field.specs.Fields.{is, kind}
+use Rattle.text.specs.Reading.{planHeader, templateLines, policyHeader, assertionLines, readPlan, readPolicy}
+use Rattle.text.specs.declared.Reading.the-variants.{Complete}
+use Rattle.text.proofs.Passed.{afterLines, firstLine, fieldAfter}
+use Rattle.reader.specs.Names.{planNames}
+use Rattle.reader.proofs.Places.{name-stands, kind-stands}
+use Rattle.rules.specs.Show.{lineStart, lineEnd, nameOf, kindLine, within}
+
+-- Nothing is left after the last line.
+none-left : (n : ℕ) → afterLines n [] ≡ []
+unfolding afterLines before
+none-left zero = refl
+none-left (suc n) = none-left n
+
+-- From where a line begins on stands the text after the lines before it.
+pub from-line : (n start : ℕ) (text : List ℕ) → drop (lineStart n start text) text ≡ afterLines n (drop start text)
+unfolding lineStart afterLines
+from-line zero start text = refl
+from-line (suc n) start text = go (ltb (start + b) (length text)) refl (from-line n (start + b + 1) text)
+  where
+    b : ℕ
+    b = before 10 (drop start text)
+
+    onward : drop (start + b + 1) text ≡ drop (b + 1) (drop start text)
+    onward = let e : start + b + 1 ≡ start + (b + 1) = omega arith in ap (λ (j : ℕ). drop j text) e ∙ sym (drop-drop (b + 1) start text)
+
+    go : (t : Bool) → ltb (start + b) (length text) ≡ t → drop (lineStart n (start + b + 1) text) text ≡ afterLines n (drop (start + b + 1) text)
+        → drop (cond t (lineStart n (start + b + 1) text) (length text)) text ≡ afterLines n (drop (b + 1) (drop start text))
+    go true e rest = rest ∙ ap (afterLines n) onward
+    go false e rest =
+        let end : length text ≤ length text = omega arith in
+        let past : length text ≤ start + b + 1 = omega (arith, ltb-false (start + b) (length text) e) in
+        drop-of-length-le text end ∙ sym (none-left n) ∙ ap (afterLines n) (sym (drop-of-length-le text past) ∙ onward)
+
+-- The line that begins at a place, without its first k bytes.
+line-part : (text : List ℕ) (start k : ℕ) → take (lineEnd start text - (start + k)) (drop (start + k) text) ≡ drop k (firstLine (drop start text))
+unfolding lineEnd
+line-part text start k =
+    let b = before 10 (drop start text) in
+    let n : start + b - (start + k) ≡ b - k = omega arith in
+    ap (λ (j : ℕ). take j (drop (start + k) text)) n ∙ ap (take (b - k)) (sym (drop-drop k start text)) ∙ sym (drop-take k b (drop start text))
+
+-- A name is found again by the lines before it.
+pub name-shown : (planText policyText : List ℕ) → readPlan planText .answer ≡ Complete
+    → (X : ℕ) → X < readPlan planText .plan .count → within (nameOf X planText) planText policyText ≡ getD (planNames planText) X []
+unfolding nameOf within
+name-shown planText policyText e X h =
+    line-part planText (lineStart (planHeader + templateLines * X) 0 planText) (length (bytes "name="))
+    ∙ ap (fieldAfter "name=") (from-line (planHeader + templateLines * X) 0 planText) ∙ sym (name-stands planText e X h .1)
+
+-- The shown line of an assertion begins with `kind=`, and what follows was read as its kind.
+pub kind-shown : (N : ℕ) (planText policyText : List ℕ) → readPolicy N policyText .answer ≡ Complete
+    → (i : ℕ) → i < readPolicy N policyText .policy .count
+    → let line = within (kindLine i policyText) planText policyText in
+    (startsWith (bytes "kind=") line ≡ true) × (kind (drop (length (bytes "kind=")) line) ≡ is (assertionAt (readPolicy N policyText .policy) i .kind))
+unfolding kindLine within
+kind-shown N planText policyText e i h =
+    let start = lineStart (policyHeader + assertionLines * i) 0 policyText in
+    let zero-more : start ≡ start + 0 = omega arith in
+    let shown : within (kindLine i policyText) planText policyText ≡ firstLine (afterLines (policyHeader + assertionLines * i) policyText) =
+    ap (λ (j : ℕ). take (lineEnd start policyText - j) (drop j policyText)) zero-more ∙ line-part policyText start 0
+    ∙ ap firstLine (from-line (policyHeader + assertionLines * i) 0 policyText) in
+    let read = kind-stands N policyText e i h in
+    rw shown (read .0, read .1)
