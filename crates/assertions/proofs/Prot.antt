@@ -25,7 +25,7 @@ use Rattle.rules.specs.Judge.{broken, firstBelow}
 use Rattle.rules.specs.Broken.{tested}
 use Rattle.rules.proofs.Walk.{below-all, below-broken}
 use Rattle.assertions.specs.declared.Labels.{Labels}
-use Rattle.assertions.specs.Lent.{parted, protBy}
+use Rattle.assertions.specs.Lent.{parted, protBy, Picked}
 
 -- ---- one identifier that is asked
 
@@ -59,8 +59,11 @@ module _ (asked : ℕ) (parts : ℕ → Bool) (limit : ℕ) where
   found-none = record { below = omega arith; so-far = λ i. has-none i ∙ sym (ap (λ (b : Bool). b && (has i asked && parts i)) (le-ltb i 0 (omega arith))) }
 
   module _ (found t : ℕ) (s : FoundSoFar asked parts limit found t) where
-    pub found-end : limit ≤ t → (i : ℕ) → has i found ≡ (ltb i limit && (has i asked && parts i))
-    found-end h i = let l = s .below in let q : t ≡ limit = omega arith in s .so-far i ∙ ap (λ (k : ℕ). ltb i k && (has i asked && parts i)) q
+    pub found-end : limit ≤ t → Picked asked parts limit found
+    found-end h =
+        let l = s .below in
+        let q : t ≡ limit = omega arith in
+        record { each = λ i. s .so-far i ∙ ap (λ (k : ℕ). ltb i k && (has i asked && parts i)) q }
 
     abbrev P : ℕ → Bool
     P i = has i asked && parts i
@@ -125,7 +128,7 @@ module _ (place : ℕ) (a : Assertion) (t : ℕ) where
 
 module _ (labels : Labels) (place : ℕ) (a : Assertion) (parts : ℕ → Bool) (bare low end split t : ℕ)
     (b : bare ≡ without (labels .source) (labels .sink)) (l : low ≡ lowest 32 (λ j. has j bare)) (m : end ≡ min low (labels .limit))
-    (p : (j : ℕ) → has j split ≡ (ltb j end && (has j (bitAnd (labels .source) (labels .sink)) && parts j)))
+    (p : Picked (bitAnd (labels .source) (labels .sink)) parts end split)
     (e : t ≡ lowest 32 (λ j. has j (bitOr bare split))) where
   abbrev L : ℕ → Bool
   L j = has j (labels .source)
@@ -137,7 +140,7 @@ module _ (labels : Labels) (place : ℕ) (a : Assertion) (parts : ℕ → Bool) 
   bare-at j = ap (has j) b ∙ has-without j (labels .source) (labels .sink)
 
   split-at : (j : ℕ) → has j split ≡ (ltb j end && ((L j && K j) && parts j))
-  split-at j = p j ∙ ap (λ (x : Bool). ltb j end && (x && parts j)) (has-and j (labels .source) (labels .sink))
+  split-at j = p .each j ∙ ap (λ (x : Bool). ltb j end && (x && parts j)) (has-and j (labels .source) (labels .sink))
 
   neither : (j : ℕ) → j < t → (has j bare ≡ false) × (has j split ≡ false)
   neither j h =

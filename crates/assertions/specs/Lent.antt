@@ -1,8 +1,10 @@
 -- Rules 17 to 19 over what is lent: the labels as masks, and the tag relations over a layout of the plan.
 -- Not to be believed: the contracts of check_assertion and check_assertions name Judge.antt.
 use Prim.Native.Nat.{ℕ}
+use mathlib.Core.Path.{_≡_}
 use mathlib.Core.Bool.{Bool, not, cond, _&&_, _||_}
 use mathlib.Core.List.{List}
+use lib.Dec.{ltb}
 use lib.Bits.{bitOr}
 use Rattle.mask.specs.Mask.{has}
 use Rattle.plan.specs.declared.Template.{Template}
@@ -47,3 +49,7 @@ servesBy kept risked joins t = has t kept && (not (has t risked) || not (joins t
 -- Rules 18 and 19 at one identifier.
 unfoldable pub protBy : Labels → ℕ → Assertion → (ℕ → Bool) → ℕ → Verdict
 protBy labels place a parts t = tested place a t (has t (labels .source)) (has t (labels .sink)) (parts t)
+
+-- The mask of the identifiers below the limit, of those asked, that pass the test.
+pub record Picked (asked : ℕ) (parts : ℕ → Bool) (limit m : ℕ) : Type 0 where
+  pub each : (t : ℕ) → has t m ≡ (ltb t limit && (has t asked && parts t))

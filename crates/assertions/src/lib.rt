@@ -10,13 +10,12 @@ use rules::Verdict;
 ghost use mathlib.Core.Path.{_≡_};
 ghost use mathlib.Core.Bool.{cond, _&&_};
 ghost use Prim.Native.Nat.{ℕ, min};
-ghost use lib.Dec.{ltb};
 ghost use Rattle.lists.specs.Numbers.{every, any};
 ghost use Rattle.mask.specs.Mask.{has, without};
 ghost use Rattle.mask.specs.Sets.{plusBelow};
 ghost use Rattle.route.specs.Layout.{Laid};
 ghost use Rattle.rules.specs.Judge.{firstBelow, checkAssertion, checkAssertions};
-ghost use Rattle.assertions.specs.Lent.{keeps, wearables, labelsOf, joined, parted, servesBy, protBy};
+ghost use Rattle.assertions.specs.Lent.{keeps, wearables, labelsOf, joined, parted, servesBy, protBy, Picked};
 
 // What an assertion asks of labels: how many identifiers there are, lab Source, lab Sink, and lab Sink with pos Sink
 // added if Sink is at risk.
@@ -50,7 +49,7 @@ fn labels_of(plan: Plan, a: Assertion) -> Labels
     }
 }
 
-// What is kept where template x, which may remove what is in neg, is in declass or may not remove it.
+// What template x leaves of what is kept: all if it is in declass, else what is not in its neg.
 fn keep(kept: u32, neg: u32, declass: u64, x: u8) -> u32
     ensures { λ r. ⌜ r ≡ cond (has x declass) kept (without kept neg) ⌝ }
 {
@@ -163,7 +162,7 @@ fn find_parted<'a>(
     a: Assertion,
     limit: u32,
 ) -> u32
-    ensures { λ r. ⌜ ((t : ℕ) → has t r ≡ (ltb t limit && (has t asked && parted (now (first .entry)) (now (second .entry)) (now (creates .entry)) forks a t))) ⌝ }
+    ensures { λ r. ⌜ Picked asked (parted (now (first .entry)) (now (second .entry)) (now (creates .entry)) forks a) limit r ⌝ }
 {
     let mut found: u32 = 0;
     let mut t: u32 = 0;

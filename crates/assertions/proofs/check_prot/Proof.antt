@@ -1,6 +1,5 @@
 -- By the lowest offender: 32 where there is none, past the limit, or below it.
 use Rattle.assertions.proofs.Prot.{prot-none, prot-past, prot-found}
-use native.Mathlib.Omega.{arith}
 use borrow.Author.Needs.{needs}
 use Rattle.assertions.proofs.check_prot.Statement.{statement}
 use Rattle.assertions.proofs.check_prot.Tie as tie
@@ -21,16 +20,10 @@ lowest-item-requires-2 : tie.Need-lowest-item-requires-2
 lowest-item-requires-2 c κs = search needs
 
 returns : tie.Need-returns
-returns c =
-    let found = c .before .before in
-    prot-none _ _ _ _ _ _ _ _ _ (found .before .before .before .before .difference .ensures) (found .before .before .before .lowest-item .ensures) (found .before .before .lesser .ensures)
-    (found .find-parted .ensures) (c .before .lowest-item2 .ensures) (search needs) (omega arith)
+returns c = search prot-none
 
 returns-2 : tie.Need-returns-2
-returns-2 c =
-    let found = c .before .before .before .before in
-    prot-past _ _ _ _ _ _ _ _ _ (found .before .before .before .before .difference .ensures) (found .before .before .before .lowest-item .ensures) (found .before .before .lesser .ensures)
-    (found .find-parted .ensures) (c .before .before .before .lowest-item2 .ensures) (omega arith)
+returns-2 c = search prot-past
 
 rule-at-requires : tie.Need-rule-at-requires
 rule-at-requires c κs = search needs
@@ -39,10 +32,7 @@ cast-t16 : tie.Need-cast-t16
 cast-t16 c = search needs
 
 returns-3 : tie.Need-returns-3
-returns-3 c =
-    let found = c .before .before .before .before .before in
-    prot-found _ _ _ _ _ _ _ _ _ (found .before .before .before .before .difference .ensures) (found .before .before .before .lowest-item .ensures) (found .before .before .lesser .ensures)
-    (found .find-parted .ensures) (c .before .before .before .before .lowest-item2 .ensures) (omega arith) (omega arith) _ (c .rule-at .ensures)
+returns-3 c = search prot-found
 
 pub check-prot-spec : {M : Type 1} → statement M
 check-prot-spec =

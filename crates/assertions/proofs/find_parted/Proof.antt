@@ -29,7 +29,7 @@ loop-again : tie.Need-loop-again Inv-loop μ-loop
 loop-again c = search found-more
 
 returns : tie.Need-returns Inv-loop μ-loop
-returns c = found-end _ _ _ _ _ (c .before .loop .inv) (omega arith)
+returns c = search found-end
 
 pub find-parted-spec : {M : Type 1} → statement M
 find-parted-spec =
