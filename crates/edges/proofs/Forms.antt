@@ -10,7 +10,7 @@ use lib.ListN.{length}
 use Rattle.plan.specs.declared.Plan.{Plan}
 use Rattle.plan.specs.declared.Template.{Template}
 use Rattle.plan.specs.declared.Successors.{Successors}
-use Rattle.plan.specs.Plan.{at, successors}
+use Rattle.plan.specs.Plan.{blank, at, successors}
 use Rattle.plan.specs.Listed.{listFor, listed}
 use Rattle.plan.proofs.Places.{template-past}
 use Rattle.rules.specs.declared.Verdict.{Verdict}
@@ -58,9 +58,10 @@ edges-of plan X a s b c k e p q =
 
 -- ---- all templates
 
--- What the loop keeps: the edges of the first x templates are accepted.
+-- What the loop keeps: the edges of the first x templates are accepted; and past the places stands what is blank.
 pub record Passed (plan : Plan) (n x : ℕ) : Type 0 where
   pub whole : n ≡ placed plan
+  pub past : (X : ℕ) → 64 ≤ X → at plan X ≡ blank
   pub below : x ≤ n
   pub so-far : firstBelow x (λ X. firstIn (successors (at plan X .form)) (checkEdge plan X)) ≡ Accepted
 
@@ -68,22 +69,21 @@ module _ (plan : Plan) where
   abbrev each : ℕ → Verdict
   each X = firstIn (successors (at plan X .form)) (checkEdge plan X)
 
-  pub edges-start : (n : ℕ) → n ≡ placed plan → Passed plan n 0
-  edges-start n e = record { whole = e; below = omega arith; so-far = below-none each }
+  pub edges-start : (B : Type 0) (f : Template → B) → length (map f (plan .templates)) ≡ 64 → (n : ℕ) → n ≡ placed plan → Passed plan n 0
+  edges-start B f full n e = record { whole = e; past = template-past B f plan full; below = omega arith; so-far = below-none each }
 
-  -- Past the places no template has an edge.
-  module _ (B : Type 0) (f : Template → B) (full : length (map f (plan .templates)) ≡ 64) where
+  module _ (n x : ℕ) (p : Passed plan n x) where
+    -- Past the places no template has an edge.
     edgeless : (X : ℕ) → 64 ≤ X → each X ≡ Accepted
     unfolding successors firstIn
-    edgeless X h = ap (λ (a : Template). firstIn (successors (a .form)) (checkEdge plan X)) (template-past B f plan full X h)
+    edgeless X h = ap (λ (a : Template). firstIn (successors (a .form)) (checkEdge plan X)) (p .past X h)
 
-    pub edges-end : (n x : ℕ) → Passed plan n x → n ≤ x → Accepted ≡ checkEdges plan
+    pub edges-end : n ≤ x → Accepted ≡ checkEdges plan
     unfolding checkEdges
-    edges-end n x p h =
+    edges-end h =
         let q : x ≡ placed plan = omega (arith, p .whole, p .below) in
         sym (below-past (plan .count) 64 each edgeless (subst (λ (k : ℕ). firstBelow k each ≡ Accepted) q (p .so-far)))
 
-  module _ (n x : ℕ) (p : Passed plan n x) where
     pub edges-room : x < n → Fits w8 (x + 1)
     edges-room h = let s = p .whole in omega arith
 
@@ -99,4 +99,4 @@ module _ (plan : Plan) where
       edges-hit f = let h = p .whole in below-leaves (plan .count) each x v (omega arith) (p .so-far) e o t f
 
       pub edges-more : o ≡ true → Passed plan n (x + 1)
-      edges-more f = record { whole = p .whole; below = omega arith; so-far = below-more x each (p .so-far) (sym e ∙ accepted-is v (sym t ∙ f)) }
+      edges-more f = record { whole = p .whole; past = p .past; below = omega arith; so-far = below-more x each (p .so-far) (sym e ∙ accepted-is v (sym t ∙ f)) }

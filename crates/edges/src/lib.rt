@@ -70,11 +70,21 @@ pub fn check_edges(plan: Plan) -> Verdict
     let n = plan::capped(plan.count, 64);
     let mut x: u8 = 0;
     while x < n {
-        let a = plan::template_at(plan, x);
+        let a = plan.templates[x as usize];
         let form = a.form;
         let next = plan::successors_of(form);
-        let b = plan::template_at(plan, next.first);
-        let c = plan::template_at(plan, next.second);
+        let y = next.first as usize;
+        let z = next.second as usize;
+        let b = if y < 64 {
+            plan.templates[y]
+        } else {
+            plan::blank_template()
+        };
+        let c = if z < 64 {
+            plan.templates[z]
+        } else {
+            plan::blank_template()
+        };
         let v = check_edges_from(plan.identifiers, x, a, next, b, c);
         if !rules::is_accepted(v) {
             return v;
