@@ -39,14 +39,14 @@ pub fn lowest_item(m: u32) -> u32
     u32::trailing_zeros(m)
 }
 
-// The items of m, and i where it is below the width.
-pub fn insert_u32(m: u32, i: u32) -> u32
-    ensures { λ r. ⌜ r ≡ plusBelow 32 m i ⌝ }
+// The items of m, and t where it is below the width.
+pub fn insert_u32(m: u32, t: u32) -> u32
+    ensures { λ r. ⌜ r ≡ plusBelow 32 m t ⌝ }
 {
-    if 32 <= i {
+    if 32 <= t {
         return m;
     }
-    m | (1u32 << i)
+    m | (1u32 << t)
 }
 
 // The items of m, and x where it is below the width.
