@@ -18,25 +18,25 @@ use Rattle.rules.specs.declared.Verdict.the-variants.{Accepted}
 use Rattle.rules.specs.Judge.{orElse, firstBelow, firstIn, checkEdge, checkEdges}
 use Rattle.rules.specs.Broken.{accepted}
 use Rattle.rules.proofs.Walk.{accepted-is, below-none, below-more, below-leaves, below-past}
-use Rattle.edges.specs.Wide.{firstOf, edgesOf, placed}
+use Rattle.edges.specs.Wide.{firstOfTwo, edgesOf, placed}
 use Rattle.edges.proofs.Offenders.{or-last, edge-checked}
 
 -- None, one or two, as the code meets them: x and y are the answers for the first and for the second.
 module _ (n : ℕ) (v w : Verdict) where
-  pub of-none : n ≡ 0 → Accepted ≡ firstOf n v w
-  unfolding firstOf
-  of-none h = sym (ap (λ (k : ℕ). firstOf k v w) h)
+  pub of-none : n ≡ 0 → Accepted ≡ firstOfTwo n v w
+  unfolding firstOfTwo
+  of-none h = sym (ap (λ (k : ℕ). firstOfTwo k v w) h)
 
   module _ (x : Verdict) (e : x ≡ v) where
-    pub of-one : n ≡ 1 → x ≡ firstOf n v w
-    unfolding firstOf
-    of-one h = e ∙ sym (ap (λ (k : ℕ). firstOf k v w) h)
+    pub of-one : n ≡ 1 → x ≡ firstOfTwo n v w
+    unfolding firstOfTwo
+    of-one h = e ∙ sym (ap (λ (k : ℕ). firstOfTwo k v w) h)
 
-    pub of-two : (n ≡ 0 → ⊥) → (n ≡ 1 → ⊥) → (y r : Verdict) → y ≡ w → r ≡ orElse x y → r ≡ firstOf n v w
-    unfolding firstOf
+    pub of-two : (n ≡ 0 → ⊥) → (n ≡ 1 → ⊥) → (y r : Verdict) → y ≡ w → r ≡ orElse x y → r ≡ firstOfTwo n v w
+    unfolding firstOfTwo
     of-two h l y r d o = o ∙ ap₂ orElse e d ∙ two n h l
       where
-        two : (n : ℕ) → (n ≡ 0 → ⊥) → (n ≡ 1 → ⊥) → orElse v w ≡ firstOf n v w
+        two : (n : ℕ) → (n ≡ 0 → ⊥) → (n ≡ 1 → ⊥) → orElse v w ≡ firstOfTwo n v w
         two zero h l = absurd (h refl)
         two (suc zero) h l = absurd (l refl)
         two (suc (suc n)) h l = refl
@@ -45,13 +45,13 @@ module _ (n : ℕ) (v w : Verdict) where
 pub edges-of : (plan : Plan) (X : ℕ) (a : Template) (s : Successors) (b c : Template) → a ≡ at plan X
     → listed s ≡ successors (a .form) → b ≡ at plan (s .first) → c ≡ at plan (s .second)
     → edgesOf (plan .identifiers) X a s b c ≡ firstIn (successors (at plan X .form)) (checkEdge plan X)
-unfolding edgesOf firstOf firstIn
+unfolding edgesOf firstOfTwo firstIn
 edges-of plan X a s b c k e p q =
-    ap₂ (firstOf (s .count)) (edge-checked plan X (s .first) a b _ k p refl) (edge-checked plan X (s .second) a c _ k q refl)
+    ap₂ (firstOfTwo (s .count)) (edge-checked plan X (s .first) a b _ k p refl) (edge-checked plan X (s .second) a c _ k q refl)
     ∙ walk (s .count) (s .first) (s .second)
     ∙ ap (λ (l : List ℕ). firstIn l (checkEdge plan X)) (e ∙ ap (λ (t : Template). successors (t .form)) k)
   where
-    walk : (n Y Z : ℕ) → firstOf n (checkEdge plan X Y) (checkEdge plan X Z) ≡ firstIn (listFor n Y Z) (checkEdge plan X)
+    walk : (n Y Z : ℕ) → firstOfTwo n (checkEdge plan X Y) (checkEdge plan X Z) ≡ firstIn (listFor n Y Z) (checkEdge plan X)
     walk zero Y Z = refl
     walk (suc zero) Y Z = sym (or-last (checkEdge plan X Y))
     walk (suc (suc n)) Y Z = ap (orElse (checkEdge plan X Y)) (sym (or-last (checkEdge plan X Z)))

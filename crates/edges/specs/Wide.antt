@@ -20,14 +20,14 @@ unfoldable pub edgeOf : ℕ → Template → Template → ℕ → ℕ → Verdic
 edgeOf M a b X Y = firstIn edgeRules (rowOn M a b X Y)
 
 -- The first of up to two that is not accepted.
-unfoldable pub firstOf : ℕ → Verdict → Verdict → Verdict
-firstOf zero v w = Accepted
-firstOf (suc zero) v w = v
-firstOf (suc (suc n)) v w = orElse v w
+unfoldable pub firstOfTwo : ℕ → Verdict → Verdict → Verdict
+firstOfTwo zero v w = Accepted
+firstOfTwo (suc zero) v w = v
+firstOfTwo (suc (suc n)) v w = orElse v w
 
 -- The edges from template X, which is a, to its successors, of which the first is b and the second c.
 unfoldable pub edgesOf : ℕ → ℕ → Template → Successors → Template → Template → Verdict
-edgesOf M X a s b c = firstOf (s .count) (edgeOf M a b X (s .first)) (edgeOf M a c X (s .second))
+edgesOf M X a s b c = firstOfTwo (s .count) (edgeOf M a b X (s .first)) (edgeOf M a c X (s .second))
 
 -- The templates that stand in the array; past its 64 places all are blank.
 abbrev pub placed : Plan → ℕ

@@ -5,7 +5,7 @@ use native.Mathlib.Omega.{arith}
 use lib.Pow.{pow-pos, pow-mono}
 use mir.Val.{Fits}
 use mir.Syntax.{w32}
-use Rattle.mask.proofs.Raised.{one-raised}
+use Rattle.mask.proofs.Shifted.{one-shifted}
 
 -- Below 33 identifiers nothing is cut.
 pub count-few : (m r : ℕ) → m ≤ 32 → r ≡ 2 ^ min m 32 → r ≡ 2 ^ m
@@ -15,7 +15,7 @@ count-few m r h e = let q : min m 32 ≡ m = omega arith in e ∙ ap (λ (k : �
 pub count-shifted : (m : ℕ) → m < 32 → 1 * 2 ^ m % 2 ^ 64 ≡ 2 ^ min m 32
 count-shifted m h =
     let q : m ≡ min m 32 = omega arith in
-    one-raised 64 m (omega arith) ∙ ap (λ (k : ℕ). 2 ^ k) q
+    one-shifted 64 m (omega arith) ∙ ap (λ (k : ℕ). 2 ^ k) q
 
 pub count-most : (m : ℕ) → 32 ≤ m → 4294967296 ≡ 2 ^ min m 32
 count-most m h = let q : 32 ≡ min m 32 = omega arith in ap (λ (k : ℕ). 2 ^ k) q

@@ -2,5 +2,5 @@ pub mod Digits
 pub mod Items
 pub mod Width
 pub mod Size
-pub mod Raised
+pub mod Shifted
 pub mod Counted

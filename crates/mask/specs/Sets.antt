@@ -7,7 +7,7 @@ use lib.Dec.{ltb}
 use Rattle.lists.specs.Numbers.{every}
 use Rattle.mask.specs.Mask.{has, plus}
 
--- Each item of a below the width is in b: document 01's "within".
+-- Each item of a below the width is in b.
 unfoldable pub within : ℕ → ℕ → ℕ → Bool
 within width a b = every width (λ i. not (has i a) || has i b)
 
@@ -16,8 +16,8 @@ unfoldable pub plusBelow : ℕ → ℕ → ℕ → ℕ
 plusBelow width m i = cond (ltb i width) (plus m i) m
 
 -- The items of m, each n higher.
-unfoldable pub raised : ℕ → ℕ → ℕ
-raised n m = m * 2 ^ n
+unfoldable pub shifted : ℕ → ℕ → ℕ
+shifted n m = m * 2 ^ n
 
 -- How many items below the width are in m.
 unfoldable pub size : ℕ → ℕ → ℕ

@@ -3,7 +3,7 @@ ghost use mathlib.Core.Path.{_≡_};
 ghost use Prim.Native.Nat.{_+_, _%_, _^_, min};
 ghost use Rattle.lists.specs.Numbers.{lowest};
 ghost use Rattle.mask.specs.Mask.{has, without};
-ghost use Rattle.mask.specs.Sets.{plusBelow, raised};
+ghost use Rattle.mask.specs.Sets.{plusBelow, shifted};
 
 // Whether item i is in the mask m; nothing stands at or past the width.
 pub fn contains_u32(m: u32, i: u32) -> bool
@@ -60,8 +60,8 @@ pub fn insert_u64(m: u64, x: u8) -> u64
 }
 
 // The items of m, each n higher; those that come to stand past the width are lost.
-pub fn raise_u32(m: u32, n: u32) -> u32
-    ensures { λ r. ⌜ r ≡ raised n m % 2 ^ 32 ⌝ }
+pub fn shift_u32(m: u32, n: u32) -> u32
+    ensures { λ r. ⌜ r ≡ shifted n m % 2 ^ 32 ⌝ }
 {
     if 32 <= n {
         return 0;
@@ -70,8 +70,8 @@ pub fn raise_u32(m: u32, n: u32) -> u32
 }
 
 // The items of m, each d higher; those that come to stand past the width are lost.
-pub fn raise_u64(m: u64, d: u8) -> u64
-    ensures { λ r. ⌜ r ≡ raised d m % 2 ^ 64 ⌝ }
+pub fn shift_u64(m: u64, d: u8) -> u64
+    ensures { λ r. ⌜ r ≡ shifted d m % 2 ^ 64 ⌝ }
 {
     if 64 <= d {
         return 0;

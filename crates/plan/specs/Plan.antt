@@ -1,4 +1,5 @@
--- What stands at a place of a plan and of a policy (document 01, "The two texts"). The types are the code's own.
+-- What stands at a place of a plan and of a policy (document 01, "The two texts", "Routes"), and when a template
+-- fits (20). The types are the code's own.
 -- Believed: everything here. Proved against it: crates plan and planrow.
 use Prim.Native.Nat.{ℕ, _^_}
 use mathlib.Core.{Path.{_≡_}, Logic.{_⊎_}, Bool.{Bool, false, _&&_}, List.{List, [], _∷_}}
@@ -30,11 +31,11 @@ successors (Go Y) = Y ∷ []
 successors (Either Y Z) = Y ∷ Z ∷ []
 successors (Both Y Z) = Y ∷ Z ∷ []
 
--- "8 digits each, over identifiers": a template's masks, in the order of their lines.
+-- lab, pos, neg and creates, in the order of their lines.
 unfoldable pub masks : Template → List ℕ
 masks t = t .lab ∷ t .pos ∷ t .neg ∷ t .creates ∷ []
 
--- Document 01, 20, of one template: not "a plan's successor not below N", not "a mask [..] of the plan beyond M".
+-- A template that 20 does not refuse ("a plan's successor not below N", "a mask [..] of the plan beyond M").
 unfoldable pub templateFits : ℕ → ℕ → Template → Bool
 templateFits N M t = all (λ Y. ltb Y N) (successors (t .form)) && all (λ mask. ltb mask (2 ^ M)) (masks t)
 

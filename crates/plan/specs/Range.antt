@@ -1,5 +1,5 @@
 -- What reading a plan and a policy promises: no number and no mask in them is out of range, and the places that no line
--- filled are blank. A law of crate reader says that everything read is so; crates route, rules and promise use it.
+-- filled are blank. A law of crate reader says that everything read is so; the crates above use it.
 -- Not to be believed: nothing is stated of a program by these alone.
 use Prim.Native.Nat.{ℕ, _^_, _≤_, _<_}
 use mathlib.Core.Path.{_≡_}
@@ -26,7 +26,7 @@ abbrev pub Clear : Kind → ℕ → ℕ → ℕ → Type 0
 Clear Secrecy source sink declass = (has source declass ≡ false) × (has sink declass ≡ false)
 Clear Prot source sink declass = declass ≡ 0
 
--- Each field is what one test of two numbers says.
+-- Each field is what a test says that computes; U4 asks it of a record.
 pub record AssertionInRange (count : ℕ) (a : Assertion) : Type 0 where
   pub source : a .source < count
   pub sink : a .sink < count

@@ -34,13 +34,13 @@ pub record RouteLacking (plan : Plan) (test : ℕ → Bool) (X Z : ℕ) : Type 0
 
 -- "Template 0 is the root": some route from it leads to X, and one of those lacks A, or holds A, ends included.
 abbrev pub Reached : Plan → ℕ → Type 0
-Reached plan X = (route : List ℕ) × Route plan 0 X route
+Reached plan X = (list : List ℕ) × Route plan 0 X list
 
 abbrev pub ReachedLacking : Plan → ℕ → ℕ → Type 0
 ReachedLacking plan A X = RouteLacking plan (equals A) 0 X
 
 abbrev pub ReachedHolding : Plan → ℕ → ℕ → Type 0
-ReachedHolding plan A X = (route : List ℕ) × Route plan 0 X route × Holds (equals A) route
+ReachedHolding plan A X = (list : List ℕ) × Route plan 0 X list × Holds (equals A) list
 
 -- "Its branches are its two successors, in either assignment, also when they are equal."
 abbrev pub Branches : Form → ℕ → ℕ → Type 0

@@ -52,7 +52,7 @@ check11 plan =
     cond (ltb t (plan .identifiers)) (broken 11 (creator plan t) (nextCreator plan t) t) Accepted
 
 -- What identifier i does against a rule on the edge from X to Y. lab is lab X; a step asks the same of a process's
--- label in its place.
+-- label in its place. Of X itself 14 and 15 ask pos and neg.
 -- 12: "lab Y within lab X plus pos Y".
 abbrev pub offends12 : ℕ → Template → Template → ℕ → Bool
 offends12 lab X Y i = has i (Y .lab) && not (has i lab || has i (Y .pos))
@@ -78,25 +78,26 @@ pub record EdgeRule : Type 0 where
   pub number : ℕ
   pub offends : ℕ → Template → Template → ℕ → Bool
 
-abbrev rule : ℕ → (ℕ → Template → Template → ℕ → Bool) → EdgeRule
-rule number offends = record { number = number; offends = offends }
+abbrev row : ℕ → (ℕ → Template → Template → ℕ → Bool) → EdgeRule
+row number offends = record { number = number; offends = offends }
 
--- "Each tested 12 to 16"; of these a step asks "rules 12, 13, 16".
+-- "12 to 16"; and "rules 12, 13, 16", which a step asks: the law `step-rows` says that these are rows of the table.
 unfoldable pub edgeRules : List EdgeRule
-edgeRules = rule 12 offends12 ∷ rule 13 offends13 ∷ rule 14 offends14 ∷ rule 15 offends15 ∷ rule 16 offends16 ∷ []
+edgeRules = row 12 offends12 ∷ row 13 offends13 ∷ row 14 offends14 ∷ row 15 offends15 ∷ row 16 offends16 ∷ []
 
 unfoldable pub stepRules : List EdgeRule
-stepRules = rule 12 offends12 ∷ rule 13 offends13 ∷ rule 16 offends16 ∷ []
+stepRules = row 12 offends12 ∷ row 13 offends13 ∷ row 16 offends16 ∷ []
 
 -- Some row has that number.
 unfoldable pub isEdgeRule : ℕ → Bool
 isEdgeRule number = not (all (λ (r : EdgeRule). not (eqb number (r .number))) edgeRules)
 
+-- "Each tested 12 to 16."
 unfoldable pub checkEdge : Plan → ℕ → ℕ → Verdict
 checkEdge plan X Y =
     firstIn edgeRules (λ r. lowestOffender (plan .identifiers) (r .number) X Y (r .offends (at plan X .lab) (at plan X) (at plan Y)))
 
--- "Edges X to Y, X rising, in form order."
+-- "Edges X to Y, X rising, in form order"; "all edges count, also of templates no route reaches".
 unfoldable pub checkEdges : Plan → Verdict
 checkEdges plan = firstBelow (plan .count) (λ X. firstIn (successors (at plan X .form)) (checkEdge plan X))
 

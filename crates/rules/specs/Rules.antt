@@ -1,4 +1,4 @@
--- Rules 11 to 19 as propositions, one by one (document 01, "The judge").
+-- Rules 11 to 19 as propositions, those of an edge by the rows of their table (document 01, "The judge").
 -- Not to be believed beside Judge.antt: the law `judge-exactly` says that accepted is judged exactly when all hold.
 use Prim.Native.Nat.{ℕ, _<_}
 use mathlib.Core.Path.{_≡_}

@@ -24,9 +24,10 @@ unfoldable pub faultyLine : ℕ → List ℕ → ℕ
 faultyLine zero text = length text
 faultyLine (suc k) text = lineStart k 0 text
 
+-- What belongs to that text, of the plan's and the policy's.
 abbrev pub textOf : {A : Type 0} → Text → A → A → A
-textOf PlanText planText policyText = planText
-textOf PolicyText planText policyText = policyText
+textOf PlanText ofPlan ofPolicy = ofPlan
+textOf PolicyText ofPlan ofPolicy = ofPolicy
 
 abbrev pub from : Text → ℕ → ℕ → Part
 from text start end = record { text = text; start = start; end = end }
@@ -43,6 +44,7 @@ kindLine i policyText =
     let start = lineStart (policyHeader + assertionLines * i) 0 policyText in
     from PolicyText start (lineEnd start policyText)
 
+-- "Accepted: the empty part at the plan's start."
 unfoldable pub located : Verdict → List ℕ → List ℕ → Part
 located Accepted planText policyText = from PlanText 0 0
 located (Broken b) planText policyText =
@@ -52,11 +54,12 @@ located (Unread f) planText policyText =
     let start = faultyLine (f .line) text in
     from (f .text) start (lineEnd start text)
 
--- The bytes of a part.
-unfoldable pub within : Part → List ℕ → List ℕ → List ℕ
-within part planText policyText = take (part .end - part .start) (drop (part .start) (textOf (part .text) planText policyText))
+-- "The bytes between them", the part's numbers.
+unfoldable pub between : Part → List ℕ → List ℕ → List ℕ
+between part planText policyText = take (part .end - part .start) (drop (part .start) (textOf (part .text) planText policyText))
 
--- Where it lies, the texts lying at p and q.
+-- Where it lies, the texts lying at p and q: "the line shown is a part of the plan text or of the policy text", "and the name
+-- is that part of the plan text itself".
 unfoldable pub lying : Part → ℕ × ℕ → ℕ × ℕ → ℕ × ℕ
 lying part p q = further (part .start) (textOf (part .text) p q)
 
@@ -65,4 +68,4 @@ unfoldable pub locate : List ℕ → List ℕ → Part
 locate planText policyText = located (judge planText policyText) planText policyText
 
 unfoldable pub shown : List ℕ → List ℕ → List ℕ
-shown planText policyText = within (locate planText policyText) planText policyText
+shown planText policyText = between (locate planText policyText) planText policyText

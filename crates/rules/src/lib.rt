@@ -1,4 +1,4 @@
-// The judge's answers: their types, and the first of two that is not accepted.
+// The judge's answers: their types, the first of two that is not accepted, and which rules are those of an edge.
 ghost use mathlib.Core.Path.{_≡_};
 ghost use Rattle.rules.specs.Judge.{orElse, isEdgeRule};
 ghost use Rattle.rules.specs.Broken.{accepted};

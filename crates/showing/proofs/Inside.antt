@@ -23,7 +23,7 @@ use Rattle.rules.specs.Show.{textOf, lineStart, lineEnd, faultyLine, nameOf, ki
 use Rattle.rules.proofs.First.{breach-first}
 use Rattle.verdict.proofs.Exact.{broken-exactly}
 use Rattle.verdict.specs.Meaning.{planOf, policyOf}
-use Rattle.showing.specs.Places.{nearest}
+use Rattle.showing.specs.Places.{lyingIn}
 use Rattle.showing.proofs.Names.{from-line}
 
 abbrev pub Inside : Part → List ℕ → List ℕ → Type 0
@@ -97,12 +97,12 @@ module _ (planText policyText : List ℕ) where
   locate-inside = located-inside (judge planText policyText) refl
 
   -- So its start is a place of the text: as show returns it, of the judge's own verdict.
-  pub judged-place : (v : Verdict) (p q r : ℕ × ℕ) → v ≡ judge planText policyText → r ≡ nearest (located v planText policyText) planText policyText p q
+  pub judged-place : (v : Verdict) (p q r : ℕ × ℕ) → v ≡ judge planText policyText → r ≡ lyingIn (located v planText policyText) planText policyText p q
       → r ≡ lying (locate planText policyText) p q
-  unfolding locate lying nearest
+  unfolding locate lying lyingIn
   judged-place v p q r e h =
       let part = locate planText policyText in
       let n = length (textOf (part .text) planText policyText) in
       let there : min (part .start) n ≡ part .start = omega (arith, locate-inside) in
-      h ∙ ap (λ (x : Verdict). nearest (located x planText policyText) planText policyText p q) e
+      h ∙ ap (λ (x : Verdict). lyingIn (located x planText policyText) planText policyText p q) e
       ∙ ap (λ (k : ℕ). further k (textOf (part .text) p q)) there

@@ -18,7 +18,7 @@ use Rattle.text.specs.declared.Reading.the-variants.{Complete}
 use Rattle.text.proofs.Passed.{afterLines, firstLine, fieldAfter}
 use Rattle.reader.specs.Names.{planNames}
 use Rattle.reader.proofs.Places.{name-stands, kind-stands}
-use Rattle.rules.specs.Show.{lineStart, lineEnd, nameOf, kindLine, within}
+use Rattle.rules.specs.Show.{lineStart, lineEnd, nameOf, kindLine, between}
 
 -- Nothing is left after the last line.
 none-left : (n : ℕ) → afterLines n [] ≡ []
@@ -56,8 +56,8 @@ line-part text start k =
 
 -- A name is found again by the lines before it.
 pub name-shown : (planText policyText : List ℕ) → readPlan planText .answer ≡ Complete
-    → (X : ℕ) → X < readPlan planText .plan .count → within (nameOf X planText) planText policyText ≡ getD (planNames planText) X []
-unfolding nameOf within
+    → (X : ℕ) → X < readPlan planText .plan .count → between (nameOf X planText) planText policyText ≡ getD (planNames planText) X []
+unfolding nameOf between
 name-shown planText policyText e X h =
     line-part planText (lineStart (planHeader + templateLines * X) 0 planText) (length (bytes "name="))
     ∙ ap (fieldAfter "name=") (from-line (planHeader + templateLines * X) 0 planText) ∙ sym (name-stands planText e X h .1)
@@ -65,13 +65,13 @@ name-shown planText policyText e X h =
 -- The shown line of an assertion begins with `kind=`, and what follows was read as its kind.
 pub kind-shown : (N : ℕ) (planText policyText : List ℕ) → readPolicy N policyText .answer ≡ Complete
     → (i : ℕ) → i < readPolicy N policyText .policy .count
-    → let line = within (kindLine i policyText) planText policyText in
+    → let line = between (kindLine i policyText) planText policyText in
     (startsWith (bytes "kind=") line ≡ true) × (kind (drop (length (bytes "kind=")) line) ≡ is (assertionAt (readPolicy N policyText .policy) i .kind))
-unfolding kindLine within
+unfolding kindLine between
 kind-shown N planText policyText e i h =
     let start = lineStart (policyHeader + assertionLines * i) 0 policyText in
     let zero-more : start ≡ start + 0 = omega arith in
-    let shown : within (kindLine i policyText) planText policyText ≡ firstLine (afterLines (policyHeader + assertionLines * i) policyText) =
+    let shown : between (kindLine i policyText) planText policyText ≡ firstLine (afterLines (policyHeader + assertionLines * i) policyText) =
     ap (λ (j : ℕ). take (lineEnd start policyText - j) (drop j policyText)) zero-more ∙ line-part policyText start 0
     ∙ ap firstLine (from-line (policyHeader + assertionLines * i) 0 policyText) in
     let read = kind-stands N policyText e i h in

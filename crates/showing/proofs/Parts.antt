@@ -14,9 +14,9 @@ use Rattle.rules.specs.declared.Verdict.the-variants.{Accepted, Broken, Unread}
 use Rattle.rules.specs.declared.Part.{Part}
 use Rattle.scan.specs.Bytes.{further}
 use Rattle.text.specs.Reading.{planHeader, templateLines, policyHeader, assertionLines}
-use Rattle.rules.specs.Show.{from, textOf, lineStart, lineEnd, faultyLine, nameOf, kindLine, located, within, locate, shown}
+use Rattle.rules.specs.Show.{from, textOf, lineStart, lineEnd, faultyLine, nameOf, kindLine, located, between, locate, shown}
 use Rattle.rules.specs.Judge.{isEdgeRule, judge}
-use Rattle.showing.specs.Places.{nearest}
+use Rattle.showing.specs.Places.{lyingIn}
 
 -- ---- where it lies
 
@@ -72,28 +72,28 @@ module _ (plan policy : List ℕ) where
 -- ---- its bytes, and where they lie
 
 module _ (plan policy : List ℕ) (p q : Part) (e : p ≡ q) where
-  bytes-there : (text r : List ℕ) → text ≡ textOf (p .text) plan policy → r ≡ take (p .end - p .start) (drop (p .start) text) → r ≡ within q plan policy
-  unfolding within
-  bytes-there text r t h = h ∙ ap (λ (x : List ℕ). take (p .end - p .start) (drop (p .start) x)) t ∙ ap (λ (x : Part). within x plan policy) e
+  bytes-there : (text r : List ℕ) → text ≡ textOf (p .text) plan policy → r ≡ take (p .end - p .start) (drop (p .start) text) → r ≡ between q plan policy
+  unfolding between
+  bytes-there text r t h = h ∙ ap (λ (x : List ℕ). take (p .end - p .start) (drop (p .start) x)) t ∙ ap (λ (x : Part). between x plan policy) e
 
-  pub bytes-plan : (r : List ℕ) → p .text ≡ PlanText → r ≡ take (p .end - p .start) (drop (p .start) plan) → r ≡ within q plan policy
+  pub bytes-plan : (r : List ℕ) → p .text ≡ PlanText → r ≡ take (p .end - p .start) (drop (p .start) plan) → r ≡ between q plan policy
   bytes-plan r t = bytes-there plan r (sym (ap (λ (x : Text). textOf x plan policy) t))
 
-  pub bytes-policy : (r : List ℕ) → p .text ≡ PolicyText → r ≡ take (p .end - p .start) (drop (p .start) policy) → r ≡ within q plan policy
+  pub bytes-policy : (r : List ℕ) → p .text ≡ PolicyText → r ≡ take (p .end - p .start) (drop (p .start) policy) → r ≡ between q plan policy
   bytes-policy r t = bytes-there policy r (sym (ap (λ (x : Text). textOf x plan policy) t))
 
   module _ (a b r : ℕ × ℕ) where
-    pub lies-plan : p .text ≡ PlanText → r ≡ further (min (p .start) (length plan)) a → r ≡ nearest q plan policy a b
-    unfolding nearest
+    pub lies-plan : p .text ≡ PlanText → r ≡ further (min (p .start) (length plan)) a → r ≡ lyingIn q plan policy a b
+    unfolding lyingIn
     lies-plan t h =
         h ∙ sym (ap (λ (x : Text). further (min (p .start) (length (textOf x plan policy))) (textOf x a b)) t)
-        ∙ ap (λ (x : Part). nearest x plan policy a b) e
+        ∙ ap (λ (x : Part). lyingIn x plan policy a b) e
 
-    pub lies-policy : p .text ≡ PolicyText → r ≡ further (min (p .start) (length policy)) b → r ≡ nearest q plan policy a b
-    unfolding nearest
+    pub lies-policy : p .text ≡ PolicyText → r ≡ further (min (p .start) (length policy)) b → r ≡ lyingIn q plan policy a b
+    unfolding lyingIn
     lies-policy t h =
         h ∙ sym (ap (λ (x : Text). further (min (p .start) (length (textOf x plan policy))) (textOf x a b)) t)
-        ∙ ap (λ (x : Part). nearest x plan policy a b) e
+        ∙ ap (λ (x : Part). lyingIn x plan policy a b) e
 
 -- ---- the judge's own verdict
 
@@ -101,6 +101,6 @@ pub judged-lies : (plan policy : List ℕ) (v : Verdict) (r : Part) → v ≡ ju
 unfolding locate
 judged-lies plan policy v r e h = h ∙ ap (λ (x : Verdict). located x plan policy) e
 
-pub judged-bytes : (plan policy : List ℕ) (v : Verdict) (r : List ℕ) → v ≡ judge plan policy → r ≡ within (located v plan policy) plan policy → r ≡ shown plan policy
+pub judged-bytes : (plan policy : List ℕ) (v : Verdict) (r : List ℕ) → v ≡ judge plan policy → r ≡ between (located v plan policy) plan policy → r ≡ shown plan policy
 unfolding shown locate
-judged-bytes plan policy v r e h = h ∙ ap (λ (x : Verdict). within (located x plan policy) plan policy) e
+judged-bytes plan policy v r e h = h ∙ ap (λ (x : Verdict). between (located x plan policy) plan policy) e

@@ -8,6 +8,6 @@ use Rattle.rules.specs.declared.Part.{Part}
 use Rattle.rules.specs.Show.{textOf}
 
 -- At its start, or at the text's end where the start is past it; the texts lie at p and q.
-unfoldable pub nearest : Part → List ℕ → List ℕ → ℕ × ℕ → ℕ × ℕ → ℕ × ℕ
-nearest part planText policyText p q =
+unfoldable pub lyingIn : Part → List ℕ → List ℕ → ℕ × ℕ → ℕ × ℕ → ℕ × ℕ
+lyingIn part planText policyText p q =
     further (min (part .start) (length (textOf (part .text) planText policyText))) (textOf (part .text) p q)

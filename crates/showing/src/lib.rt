@@ -7,8 +7,8 @@ ghost use mathlib.Core.Path.{_≡_};
 ghost use Prim.Native.Nat.{_≤_};
 ghost use lib.ListN.{length};
 ghost use Rattle.rules.specs.declared.Verdict.the-variants.{Unread};
-ghost use Rattle.rules.specs.Show.{lineStart, lineEnd, faultyLine, nameOf, kindLine, located, within, lying, locate, shown};
-ghost use Rattle.showing.specs.Places.{nearest};
+ghost use Rattle.rules.specs.Show.{lineStart, lineEnd, faultyLine, nameOf, kindLine, located, between, lying, locate, shown};
+ghost use Rattle.showing.specs.Places.{lyingIn};
 
 // The length of the key `name=`.
 const NAME_KEY: usize = 5;
@@ -123,8 +123,8 @@ pub fn locate_verdict(plan: &[u8], policy: &[u8], verdict: Verdict) -> Part
 
 // The part that a verdict on the texts shows: the caller's own bytes, of the text that the verdict chooses.
 pub fn show_verdict<'a>(plan: &'a [u8], policy: &'a [u8], verdict: Verdict) -> &'a [u8]
-    ensures { λ r. ⌜ now r ≡ within (located verdict (now (plan .entry)) (now (policy .entry))) (now (plan .entry)) (now (policy .entry)) ⌝ }
-    ensures place { λ r. ⌜ r .ptr ≡ nearest (located verdict (now (plan .entry)) (now (policy .entry))) (now (plan .entry)) (now (policy .entry)) (plan .entry .ptr) (policy .entry .ptr) ⌝ }
+    ensures { λ r. ⌜ now r ≡ between (located verdict (now (plan .entry)) (now (policy .entry))) (now (plan .entry)) (now (policy .entry)) ⌝ }
+    ensures place { λ r. ⌜ r .ptr ≡ lyingIn (located verdict (now (plan .entry)) (now (policy .entry))) (now (plan .entry)) (now (policy .entry)) (plan .entry .ptr) (policy .entry .ptr) ⌝ }
 {
     let place = locate_verdict(plan, policy, verdict);
     let text = place.text;

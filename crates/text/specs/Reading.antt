@@ -51,7 +51,8 @@ unfoldable pub line : {A : Type 0} → A → String → (List ℕ → Field A) �
 line empty key read (on text k) = settle empty text k (andThen (afterKey (bytes key) text) read)
 line empty key read (stopped n k) = record { value = empty; next = stopped n k }
 
--- "For templates 0 to N-1 seven lines in this order": how many a template has.
+-- How many lines a template has; so too planHeader, assertionLines and policyHeader below. Show.antt counts with them, and the
+-- laws of proofs/Passed.antt tie them to the readers.
 abbrev pub templateLines : ℕ
 templateLines = 7
 
@@ -59,6 +60,7 @@ pub record Entry : Type 0 where
   pub name : List ℕ
   pub template : Template
 
+-- "For templates 0 to N-1 seven lines in this order"; the masks "8 digits each, over identifiers".
 unfoldable pub entry : ℕ → ℕ → List (List ℕ) → Reader Entry
 entry N M stood = do
   n ← line [] "name=" (name stood)
@@ -78,10 +80,10 @@ entries N M stood (suc more) = do
   rest ← entries N M (e .name ∷ stood) more
   give (e .template ∷ rest)
 
--- "`templates=` N (1 to 64), `identifiers=` M (0 to 32)", two lines, then the templates.
 abbrev pub planHeader : ℕ
 planHeader = 2
 
+-- "`templates=` N (1 to 64), `identifiers=` M (0 to 32)", then the templates.
 unfoldable pub plan : Reader Plan
 plan = do
   N ← line 0 "templates=" (number 3 1 65)
@@ -89,10 +91,10 @@ plan = do
   ts ← entries N M [] N
   give (record { count = N; identifiers = M; templates = ts ++ replicate (64 - N) blank })
 
--- "For each five lines", over N templates.
 abbrev pub assertionLines : ℕ
 assertionLines = 5
 
+-- "For each five lines", over N templates.
 unfoldable pub assertion : ℕ → Reader Assertion
 assertion N = do
   k ← line Secrecy "kind=" kind
@@ -109,10 +111,10 @@ assertions N (suc more) = do
   rest ← assertions N more
   give (a ∷ rest)
 
--- "`assertions=` K (0 to 32)", one line, then the assertions.
 abbrev pub policyHeader : ℕ
 policyHeader = 1
 
+-- "`assertions=` K (0 to 32)", then the assertions.
 unfoldable pub policy : ℕ → Reader Policy
 policy N = do
   K ← line 0 "assertions=" (number 3 0 33)

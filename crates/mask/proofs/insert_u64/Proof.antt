@@ -3,7 +3,7 @@ use mathlib.Core.Path.{sym}
 use native.Mathlib.Omega.{arith}
 use borrow.Author.Needs.{needs}
 use Rattle.mask.proofs.Items.{plus-past}
-use Rattle.mask.proofs.Raised.{one-added}
+use Rattle.mask.proofs.Shifted.{one-added}
 use Rattle.mask.proofs.insert_u64.Statement.{statement}
 use Rattle.mask.proofs.insert_u64.Tie as tie
 
