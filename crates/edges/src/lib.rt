@@ -9,7 +9,6 @@ ghost use mathlib.Core.Path.{_≡_};
 ghost use lib.Dec.{ltb};
 ghost use Rattle.mask.specs.Mask.{has};
 ghost use Rattle.mask.specs.Sets.{Marks};
-ghost use Rattle.plan.specs.Plan.{at, successors};
 ghost use Rattle.rules.specs.Judge.{orElse, lowestOffender, nextCreator, check11, checkEdges};
 ghost use Rattle.edges.specs.Wide.{edgeOf, edgesOf, creatorFrom};
 

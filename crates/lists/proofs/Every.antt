@@ -94,15 +94,7 @@ every-capped n k p past =
 
 -- ---- `every`: the turns of a loop (`every-none` at its start)
 
--- One more turn of a loop that leaves where the test fails.
-pub every-more : (n : ℕ) (p : ℕ → Bool) → every n p ≡ true → p n ≡ true → every (n + 1) p ≡ true
-every-more n p e h = ap (λ (k : ℕ). every k p) (add-one n) ∙ every-snoc n p ∙ ap₂ _&&_ e h
-
--- It leaves: the test failed at i.
-pub every-miss : (n : ℕ) (p : ℕ → Bool) (i : ℕ) → i < n → p i ≡ false → false ≡ every n p
-every-miss n p i h e = sym (every-fails n p i h e)
-
--- It ran to the end.
+-- A loop that leaves where the test fails ran to the end.
 pub every-end : (n : ℕ) (p : ℕ → Bool) (i : ℕ) → i ≤ n → n ≤ i → every i p ≡ true → true ≡ every n p
 every-end n p i l g e = sym (every-fewer n i p g e)
 

@@ -1,6 +1,6 @@
 -- Lists of live processes as a well formed machine has them: each in its ranges, in rising serial below the next. This is
 -- what the machine's test says of the list, and what a step, a raise and a lower do with the list keeps it.
-use Prim.Native.Nat.{ℕ, zero, suc, _+_, _^_, _≤_, _<_}
+use Prim.Native.Nat.{ℕ, suc, _+_, _^_, _≤_, _<_}
 use native.Mathlib.Omega.{arith}
 use mathlib.Core.Path.{_≡_, refl, _∙_}
 use mathlib.Core.Logic.{inl, inr}

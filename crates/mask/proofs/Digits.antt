@@ -46,6 +46,6 @@ or-digit a b = ap (λ (x : ℕ). x % 2) (or-step a b) ∙ digits-mod (bitOr (a /
 pub and-digit : (a b : ℕ) → bitAnd a b % 2 ≡ min (a % 2) (b % 2)
 and-digit a b = ap (λ (x : ℕ). x % 2) (and-step a b) ∙ digits-mod (bitAnd (a / 2) (b / 2)) (omega (arith, digit-lt a, digit-lt b))
 
--- RouteLacking its lowest digit a number has one digit less.
+-- Without its lowest digit a number has one digit less.
 pub half-lt : (k m : ℕ) → m < 2 ^ suc k → m / 2 < 2 ^ k
 half-lt k m h = omega (arith, pow-suc 2 k)

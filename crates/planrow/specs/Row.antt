@@ -13,13 +13,18 @@ use Rattle.plan.specs.Plan.{blank, at, masks}
 
 -- ---- how a row lies
 
--- The words of the header, those of a template, and all of them.
+-- The words of the header.
 abbrev pub header : ℕ
 header = 2
 
-abbrev pub width : ℕ
-width = 8
+-- Where the risk of a template stands, after its masks, and how many words it has.
+abbrev pub riskWord : ℕ
+riskWord = 7
 
+abbrev pub width : ℕ
+width = riskWord + 1
+
+-- All words.
 abbrev pub words : ℕ
 words = header + width * 64
 
@@ -56,12 +61,12 @@ templateOf word = record {
   pos = word 4;
   neg = word 5;
   creates = word 6;
-  risk = eqb (word 7) 1;
+  risk = eqb (word riskWord) 1;
 }
 
 -- The words stand for one: a form from 0 to 3, successors that are bytes, a risk that is 0 or 1.
 unfoldable pub isTemplate : (ℕ → ℕ) → Bool
-isTemplate word = leb (word 0) 3 && (leb (word 1) 255 && (leb (word 2) 255 && leb (word 7) 1))
+isTemplate word = leb (word 0) 3 && (leb (word 1) 255 && (leb (word 2) 255 && leb (word riskWord) 1))
 
 unfoldable pub templateIn : List ℕ → ℕ → Template
 templateIn row X = templateOf (wordAt row X)

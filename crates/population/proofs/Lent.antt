@@ -23,7 +23,7 @@ use Rattle.machine.specs.State.{Cells, placed, processesOf, machineFrom, unless
 use Rattle.machine.proofs.Places.{find-live, find-gone, places-differ}
 use Rattle.population.specs.declared.Settled.{Settled}
 use Rattle.population.specs.Lent.{settles, outcomeFrom, Same, LabelsAlone, unlessStep, Did, Tried, answerFor}
-use Rattle.population.proofs.Fits.{formed-plan, formed-rising, formed-live, formed-serials, formed-few}
+use Rattle.population.proofs.Fits.{formed-rising, formed-live, formed-serials, formed-few}
 
 -- ---- the ways out of a call
 

@@ -1,8 +1,8 @@
 -- Rules 12 to 16: a check is accepted exactly when the rows of the table hold, and where it is broken the row that it names
 -- is the first that fails, at the lowest identifier.
 use Prim.Native.Nat.{ℕ, _<_}
-use mathlib.Core.Path.{_≡_, sym, ap, _∙_}
-use mathlib.Core.List.{List}
+use mathlib.Core.Path.{_≡_, refl, sym, ap, _∙_}
+use mathlib.Core.List.{List, [], _∷_, map}
 use mathlib.Core.Bool.{Bool, false, cond}
 use lib.Dec.{ltb}
 use borrow.Author.Tests.{ltb-true, lt-ltb}
@@ -97,6 +97,11 @@ module _ (plan : Plan) (X Y : ℕ) where
   pub edge-decided : Decided (checkEdge plan X Y)
   unfolding checkEdge
   edge-decided = in-decided edgeRules asked (λ r. offender-decided plan (r .number) X Y (offendsAs r))
+
+-- The rows are document 01's: "12 to 16" and "12, 13, 16".
+pub rows-are : (map (λ (r : EdgeRule). r .number) edgeRules ≡ 12 ∷ 13 ∷ 14 ∷ 15 ∷ 16 ∷ []) × (map (λ (r : EdgeRule). r .number) stepRules ≡ 12 ∷ 13 ∷ 16 ∷ [])
+unfolding edgeRules stepRules
+rows-are = (refl, refl)
 
 -- What a step asks stands in the table.
 pub step-rows : (P : EdgeRule → Type 0) → Each P edgeRules → Each P stepRules

@@ -1,5 +1,4 @@
 -- What has been passed, from the end on, is equal.
-use mathlib.Core.Path.{_≡_}
 use borrow.Author.Needs.{needs}
 use Rattle.scan.proofs.Steps.{same-lengths, Tail, tail-begun, tail-on, tail-differs, tail-whole}
 use Rattle.scan.proofs.same_bytes.Statement.{statement}
