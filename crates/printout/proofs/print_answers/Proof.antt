@@ -2,9 +2,9 @@
 use Prim.Native.Nat.{_-_}
 use lib.ListN.{length}
 use borrow.Author.Needs.{needs}
-use Rattle.transcript.proofs.print_answers.Statement.{statement}
-use Rattle.transcript.proofs.print_answers.Tie as tie
-use Rattle.transcript.proofs.print_answer.Reads as print-answer-reads
+use Rattle.printout.proofs.print_answers.Statement.{statement}
+use Rattle.printout.proofs.print_answers.Tie as tie
+use Rattle.printout.proofs.print_answer.Reads as print-answer-reads
 
 abbrev Inv-loop : tie.InvT-loop
 Inv-loop answers n i₀ i = Unit {0}

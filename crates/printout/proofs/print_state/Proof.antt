@@ -1,8 +1,8 @@
 -- The loop ends since the places left fall; it needs to know nothing.
 use Prim.Native.Nat.{_-_}
 use borrow.Author.Needs.{needs}
-use Rattle.transcript.proofs.print_state.Statement.{statement}
-use Rattle.transcript.proofs.print_state.Tie as tie
+use Rattle.printout.proofs.print_state.Statement.{statement}
+use Rattle.printout.proofs.print_state.Tie as tie
 
 abbrev Inv-loop : tie.InvT-loop
 Inv-loop state place₀ place = Unit {0}

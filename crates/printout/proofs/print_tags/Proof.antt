@@ -1,8 +1,8 @@
 -- The loop ends since the places left fall; it needs to know nothing.
 use Prim.Native.Nat.{_-_}
 use borrow.Author.Needs.{needs}
-use Rattle.transcript.proofs.print_tags.Statement.{statement}
-use Rattle.transcript.proofs.print_tags.Tie as tie
+use Rattle.printout.proofs.print_tags.Statement.{statement}
+use Rattle.printout.proofs.print_tags.Tie as tie
 use Rattle.console.proofs.print.Reads as print-reads
 use Rattle.console.proofs.print_word.Reads as print-word-reads
 
