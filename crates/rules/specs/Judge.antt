@@ -1,5 +1,5 @@
 -- Rules 11 to 19, and the verdict: the first broken rule in document 01's order, with its figures ("The judge").
--- Believed: everything here. Proved against it: crates offenders, edges, assertions and verdict; stepRules also crate stepping.
+-- Believed: everything here. Proved against it: crates offenders, edges, assertions and verdict; stepRules also crate admission.
 use Prim.Native.{Nat.{ℕ, zero, suc}, String.{String}}
 use mathlib.Core.{Bool.{Bool, not, cond, _&&_, _||_}, List.{List, [], _∷_}}
 use lib.Dec.{eqb, ltb}

@@ -1,3 +1,3 @@
-pub mod Refusals
+pub mod Room
 pub mod Moves
 pub mod Steps

@@ -32,7 +32,8 @@ use Rattle.population.specs.Arrays.{cells}
 use Rattle.population.specs.Lent.{settles, outcomeFrom, Same, unlessStep, Tried, answerFor}
 use Rattle.population.proofs.Fits.{length-processes, formed-plan, formed-template, formed-identifiers, formed-few, formed-lookup, looked-at}
 use Rattle.population.proofs.Lent.{numbered, untouched, tried-same, placed-at, found-none, found-some, found-serial, alone}
-use Rattle.stepping.specs.Stepping.{innocent, fitting, allFitting, refusalOf, skipping, newborn, newborns, Advanced, SteppedAt}
+use Rattle.admission.specs.Admission.{innocent, fitting, allFitting, refusalOf}
+use Rattle.stepping.specs.Stepping.{skipping, newborn, newborns, Advanced, SteppedAt}
 use Rattle.stepping.proofs.Moves.{skipping-below, skipping-above}
 
 -- ---- the list of children and the code's two

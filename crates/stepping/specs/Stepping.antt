@@ -3,45 +3,21 @@
 -- Not to be believed: the contract of `attempt` is stated with the machine alone.
 use Prim.Native.Nat.{ℕ, zero, suc, _+_, _-_, _≤_, _<_}
 use mathlib.Core.Path.{_≡_}
-use mathlib.Core.Bool.{Bool, true, not, cond, _&&_}
+use mathlib.Core.Bool.{true, cond}
 use mathlib.Core.List.{List, [], _∷_, _++_}
-use lib.Dec.{eqb, leb, ltb}
+use lib.Dec.{ltb}
 use lib.ListN.{getD}
-use Rattle.lists.specs.Numbers.{every, all, tabulate}
+use Rattle.lists.specs.Numbers.{tabulate}
 use Rattle.plan.specs.declared.Template.{Template}
 use Rattle.plan.specs.declared.Plan.{Plan}
 use mathlib.Core.Option.{some}
 use Rattle.plan.specs.declared.Successors.{Successors}
-use Rattle.rules.specs.Judge.{EdgeRule, stepRules}
-use Rattle.machine.specs.declared.Answer.{Answer}
 use Rattle.machine.specs.declared.Answer.the-variants.{Done}
-use Rattle.machine.specs.Machine.{Process, boxLimits, wellFormed, refuseIf, branchFits, stepBy}
+use Rattle.machine.specs.Machine.{Process, boxLimits, wellFormed, stepBy}
 use Rattle.machine.specs.State.{Cells, placed, processesOf, machineFrom, unlessDone}
 use Rattle.arrays.specs.Places.{childTag}
 use Rattle.population.specs.declared.Settled.{Settled}
 use Rattle.population.specs.Lent.{outcomeFrom, Same}
-
--- Identifier i does nothing against the rules that a step asks, where a process at X of that label becomes one at Y.
-unfoldable pub innocent : ℕ → Template → Template → ℕ → Bool
-innocent label X Y i = all (λ (r : EdgeRule). not (r .offends label X Y i)) stepRules
-
--- None of M identifiers does: the machine's `mayBecome` of those templates.
-unfoldable pub fitting : ℕ → ℕ → Template → Template → Bool
-fitting M label X Y = every M (innocent label X Y)
-
-unfoldable pub allFitting : ℕ → ℕ → Template → ℕ → Template → Template → Bool
-allFitting M label X zero t u = true
-allFitting M label X (suc zero) t u = fitting M label X t
-allFitting M label X (suc (suc n)) t u = fitting M label X t && fitting M label X u
-
--- 22 to 25, for count children of a process at X.
-unfoldable pub refusalOf : ℕ → ℕ → ℕ → ℕ → Template → ℕ → ℕ → Template → Template → Answer
-refusalOf M next live label X branch count t u =
-    refuseIf (not (branchFits (X .form) branch)) 22
-    (refuseIf (eqb count 2 && not (leb (live + 1) 128)) 23
-    (refuseIf (not (leb (next + count) 4294967295)) 24
-    (refuseIf (not (allFitting M label X count t u)) 25
-    Done)))
 
 -- The processes without the one at place k.
 unfoldable pub skipping : ℕ → (ℕ → Process) → ℕ → Process

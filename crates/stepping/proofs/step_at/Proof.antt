@@ -1,6 +1,6 @@
 -- The templates looked up are the plan's, their numbers being below N; then a refusal by its number, or the move.
 use borrow.Author.Needs.{needs}
-use Rattle.stepping.proofs.Refusals.{room-left}
+use Rattle.stepping.proofs.Room.{room-left}
 use Rattle.stepping.proofs.Steps.{place-wide, place-refused, place-done}
 use Rattle.stepping.proofs.step_at.Statement.{statement}
 use Rattle.stepping.proofs.step_at.Tie as tie

@@ -6,7 +6,7 @@ use mathlib.Core.Logic.{⊎-elim}
 use native.Mathlib.Omega.{arith}
 use lib.Dec.{ltb, leb, eqb}
 use lib.Bits.{bitOr}
-use borrow.Author.Tests.{leb-true, le-leb, lt-leb, le-ltb, eq-eqb, not-false}
+use borrow.Author.Tests.{leb-true, le-leb, lt-leb, le-ltb, not-false}
 use Rattle.lists.specs.Numbers.{every, all, lowest}
 use Rattle.lists.proofs.Tests.{lt-or-le, same-test}
 use Rattle.lists.proofs.Every.{every-at, every-of}
@@ -18,9 +18,8 @@ use Rattle.plan.specs.declared.Template.{Template}
 use Rattle.rules.specs.Judge.{offends12, offends13, offends16, stepRules}
 use Rattle.machine.specs.declared.Answer.the-variants.{Done, Refused}
 use Rattle.machine.specs.Machine.{refuseIf, branchFits}
-use Rattle.population.specs.Lent.{answerFor}
-use Rattle.machine.proofs.Outcomes.{refuse-yes, refuse-no, refuse-done}
-use Rattle.stepping.specs.Stepping.{innocent, fitting, allFitting, refusalOf, Room}
+use Rattle.machine.proofs.Outcomes.{refuse-yes, refuse-no}
+use Rattle.admission.specs.Admission.{innocent, fitting, allFitting, refusalOf}
 
 -- ---- 25
 
@@ -79,7 +78,7 @@ module _ (M next live label : ℕ) (X : Template) (branch count : ℕ) (t u : Te
     pub refused-23 : (eqb count 2 && leb 128 live) ≡ true → Refused 23 ≡ refusalOf M next live label X branch count t u
     refused-23 q = sym (from-23 ∙ refuse-yes _ 23 _ (room ∙ q))
 
-    module _ (q : (eqb count 2 && leb 128 live) ≡ false) (few : count ≤ 2) where
+    module _ (q : (eqb count 2 && leb 128 live) ≡ false) (few : count < 256) where
       from-24 : refusalOf M next live label X branch count t u
           ≡ refuseIf (not (leb (next + count) 4294967295)) 24 (refuseIf (not (allFitting M label X count t u)) 25 Done)
       from-24 = from-23 ∙ refuse-no _ 23 _ (room ∙ q)
@@ -96,27 +95,3 @@ module _ (M next live label : ℕ) (X : Template) (branch count : ℕ) (t u : Te
 
         pub refused-none : not a ≡ false → Done ≡ refusalOf M next live label X branch count t u
         refused-none r = sym (from-25 ∙ refuse-no _ 25 _ (ap not (sym ea) ∙ r))
-
--- ---- none holds: there is room
-
-pub room-left : (M next live label : ℕ) (X : Template) (branch count : ℕ) (t u : Template) (q k : ℕ)
-    → answerFor q ≡ refusalOf M next live label X branch count t u → q ≡ 0
-    → M ≤ 32 → k < live → live ≤ 128 → count ≤ 2 → Room M next live k count
-unfolding refusalOf
-room-left M next live label X branch count t u q k e z few h l n =
-    let d = refuse-done _ 22 _ (sym e ∙ ap answerFor z) in
-    let d23 = refuse-done (eqb count 2 && not (leb (live + 1) 128)) 23 _ (d .1) in
-    let d24 = refuse-done (not (leb (next + count) 4294967295)) 24 _ (d23 .1) in
-    record {
-      identifiers = few;
-      place = h;
-      processes = l;
-      children = n;
-      serials = leb-true (next + count) 4294967295 (not-false (leb (next + count) 4294967295) (d24 .0));
-      spare = λ r. spare r (d23 .0);
-    }
-  where
-    spare : count ≡ 2 → (eqb count 2 && not (leb (live + 1) 128)) ≡ false → live < 128
-    spare r f =
-        let w : leb (live + 1) 128 ≡ true = not-false (leb (live + 1) 128) (ap (λ (b : Bool). b && not (leb (live + 1) 128)) (sym (eq-eqb count 2 r)) ∙ f) in
-        let v = leb-true (live + 1) 128 w in omega arith

@@ -2,8 +2,8 @@
 use borrow.Author.Tests.{eq-eqb, ne-eqb}
 use borrow.Author.Needs.{needs}
 use Rattle.machine.specs.Machine.{children}
-use Rattle.stepping.proofs.children_of.Statement.{statement}
-use Rattle.stepping.proofs.children_of.Tie as tie
+use Rattle.admission.proofs.children_of.Statement.{statement}
+use Rattle.admission.proofs.children_of.Tie as tie
 
 enum-told : tie.Need-enum-told
 enum-told c = search needs

@@ -1,8 +1,8 @@
 -- The lowest offending identifier is none of the plan's.
-use Rattle.stepping.proofs.Refusals.{fits-one}
+use Rattle.admission.proofs.Refusals.{fits-one}
 use borrow.Author.Needs.{needs}
-use Rattle.stepping.proofs.is_fitting.Statement.{statement}
-use Rattle.stepping.proofs.is_fitting.Tie as tie
+use Rattle.admission.proofs.is_fitting.Statement.{statement}
+use Rattle.admission.proofs.is_fitting.Tie as tie
 
 offences-requires : tie.Need-offences-requires
 offences-requires c κs = search needs

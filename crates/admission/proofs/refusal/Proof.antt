@@ -1,8 +1,8 @@
 -- The refusals in document order, each by its law.
 use borrow.Author.Needs.{needs}
-use Rattle.stepping.proofs.Refusals.{refused-22, refused-23, refused-24, refused-25, refused-none}
-use Rattle.stepping.proofs.refusal.Statement.{statement}
-use Rattle.stepping.proofs.refusal.Tie as tie
+use Rattle.admission.proofs.Refusals.{refused-22, refused-23, refused-24, refused-25, refused-none}
+use Rattle.admission.proofs.refusal.Statement.{statement}
+use Rattle.admission.proofs.refusal.Tie as tie
 
 is-branch-requires : tie.Need-is-branch-requires
 is-branch-requires c κs = search needs
@@ -20,7 +20,7 @@ returns-3 : tie.Need-returns-3
 returns-3 c =
     let room = c .before in
     let branch = room .before in
-    refused-24 _ _ _ _ _ _ _ _ _ _ (branch .before .is-branch .ensures) (branch .if1 .left) (room .if2 .left) (branch .before .before .pre) (c .if3 .taken)
+    refused-24 _ _ _ _ _ _ _ _ _ _ (branch .before .is-branch .ensures) (branch .if1 .left) (room .if2 .left) (branch .before .before .fits .count .fits) (c .if3 .taken)
 
 are-fitting-requires : tie.Need-are-fitting-requires
 are-fitting-requires c κs = search needs
@@ -30,7 +30,7 @@ returns-4 c =
     let serials = c .before .before in
     let room = serials .before in
     let branch = room .before in
-    refused-25 _ _ _ _ _ _ _ _ _ _ (branch .before .is-branch .ensures) (branch .if1 .left) (room .if2 .left) (branch .before .before .pre) (serials .if3 .left) _
+    refused-25 _ _ _ _ _ _ _ _ _ _ (branch .before .is-branch .ensures) (branch .if1 .left) (room .if2 .left) (branch .before .before .fits .count .fits) (serials .if3 .left) _
     (c .before .are-fitting .ensures) (c .if4 .taken)
 
 returns-5 : tie.Need-returns-5
@@ -38,7 +38,7 @@ returns-5 c =
     let serials = c .before .before in
     let room = serials .before in
     let branch = room .before in
-    refused-none _ _ _ _ _ _ _ _ _ _ (branch .before .is-branch .ensures) (branch .if1 .left) (room .if2 .left) (branch .before .before .pre) (serials .if3 .left) _
+    refused-none _ _ _ _ _ _ _ _ _ _ (branch .before .is-branch .ensures) (branch .if1 .left) (room .if2 .left) (branch .before .before .fits .count .fits) (serials .if3 .left) _
     (c .before .are-fitting .ensures) (c .if4 .left)
 
 pub refusal-spec : {M : Type 1} → statement M

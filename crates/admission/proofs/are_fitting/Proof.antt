@@ -1,8 +1,8 @@
 -- The test asks of the children that are there.
 use borrow.Author.Needs.{needs}
-use Rattle.stepping.proofs.Refusals.{fits-all}
-use Rattle.stepping.proofs.are_fitting.Statement.{statement}
-use Rattle.stepping.proofs.are_fitting.Tie as tie
+use Rattle.admission.proofs.Refusals.{fits-all}
+use Rattle.admission.proofs.are_fitting.Statement.{statement}
+use Rattle.admission.proofs.are_fitting.Tie as tie
 
 is-fitting-requires : tie.Need-is-fitting-requires
 is-fitting-requires c κs = search needs

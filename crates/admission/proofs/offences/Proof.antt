@@ -1,8 +1,8 @@
 -- The masks of the three rows together.
-use Rattle.stepping.proofs.Refusals.{offences-gathered}
+use Rattle.admission.proofs.Refusals.{offences-gathered}
 use borrow.Author.Needs.{needs}
-use Rattle.stepping.proofs.offences.Statement.{statement}
-use Rattle.stepping.proofs.offences.Tie as tie
+use Rattle.admission.proofs.offences.Statement.{statement}
+use Rattle.admission.proofs.offences.Tie as tie
 
 offenders-12-requires : tie.Need-offenders-12-requires
 offenders-12-requires c κs = search needs

@@ -1,8 +1,8 @@
 -- By the form.
 use borrow.Author.Needs.{needs}
 use Rattle.machine.specs.Machine.{branchFits}
-use Rattle.stepping.proofs.is_branch.Statement.{statement}
-use Rattle.stepping.proofs.is_branch.Tie as tie
+use Rattle.admission.proofs.is_branch.Statement.{statement}
+use Rattle.admission.proofs.is_branch.Tie as tie
 
 enum-told : tie.Need-enum-told
 enum-told c = search needs
