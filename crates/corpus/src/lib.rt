@@ -3,7 +3,7 @@ ghost use Prim.Native.Nat.{_<_, _≤_};
 ghost use lib.ListN.{length};
 
 // The value of a hexadecimal digit; any other byte counts as 0.
-pub fn nibble(b: u8) -> usize
+fn nibble(b: u8) -> usize
     ensures { λ r. ⌜ r < 16 ⌝ }
 {
     if b < 48 {
@@ -21,15 +21,24 @@ pub fn nibble(b: u8) -> usize
     0
 }
 
-// A length of four digits.
-pub fn length_of(a: u8, b: u8, c: u8, d: u8) -> usize
+// A length of four digits from that place on; 0 where the header ends before them.
+fn length_at(header: &[u8], at: usize) -> usize
     ensures { λ r. ⌜ r < 65536 ⌝ }
 {
-    nibble(a) * 4096 + nibble(b) * 256 + nibble(c) * 16 + nibble(d)
+    if header.len() < 4 {
+        return 0;
+    }
+    if header.len() - 4 < at {
+        return 0;
+    }
+    nibble(header[at]) * 4096
+        + nibble(header[at + 1]) * 256
+        + nibble(header[at + 2]) * 16
+        + nibble(header[at + 3])
 }
 
 // How many bytes of the next text of that length are now in the buffer: fewer where the file ends.
-pub fn read_text(file: i32, buffer: &mut [u8], size: usize) -> usize
+fn read_text(file: i32, buffer: &mut [u8], size: usize) -> usize
     ensures { λ r. ⌜ r ≤ length (now (buffer .exit)) ⌝ }
 {
     if buffer.len() < size {
@@ -57,19 +66,50 @@ pub fn read_pair(file: i32, plan: &mut [u8], policy: &mut [u8]) -> Pair
             policy: 0,
         };
     }
-    let n = read_text(
-        file,
-        plan,
-        length_of(header[0], header[1], header[2], header[3]),
-    );
-    let m = read_text(
-        file,
-        policy,
-        length_of(header[4], header[5], header[6], header[7]),
-    );
+    let n = read_text(file, plan, length_at(&header, 0));
+    let m = read_text(file, policy, length_at(&header, 4));
     Pair {
         found: true,
         plan: n,
         policy: m,
+    }
+}
+
+// How many bytes of a case's two texts and of its calls are now in the buffers, and the next serial that its box starts
+// with; found is false where there is no case left.
+pub struct Listed {
+    pub found: bool,
+    pub plan: usize,
+    pub policy: usize,
+    pub calls: usize,
+    pub next: u32,
+}
+
+// The next case of two texts and a list of calls. The calls' length has six digits, of which the first two are 0; the
+// next serial has eight.
+pub fn read_listed(file: i32, plan: &mut [u8], policy: &mut [u8], calls: &mut [u8]) -> Listed
+    ensures { λ r. ⌜ (r .plan ≤ length (now (plan .exit))) × (r .policy ≤ length (now (policy .exit))) × (r .calls ≤ length (now (calls .exit))) ⌝ }
+{
+    let mut header: [u8; 22] = [0; 22];
+    if read_text(file, &mut header, 22) < 22 {
+        return Listed {
+            found: false,
+            plan: 0,
+            policy: 0,
+            calls: 0,
+            next: 0,
+        };
+    }
+    let n = read_text(file, plan, length_at(&header, 0));
+    let m = read_text(file, policy, length_at(&header, 4));
+    let c = read_text(file, calls, length_at(&header, 10));
+    let high = length_at(&header, 14) as u32;
+    let low = length_at(&header, 18) as u32;
+    Listed {
+        found: true,
+        plan: n,
+        policy: m,
+        calls: c,
+        next: high * 65536 + low,
     }
 }

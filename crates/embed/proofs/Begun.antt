@@ -16,7 +16,9 @@ use Rattle.machine.specs.State.{Cells, machineFrom, machineOf, blankState, star
 use Rattle.planrow.specs.Row.{planOfRow, rowOfPlan}
 use Rattle.planrow.proofs.RoundTrip.{none-means}
 use Rattle.monitor.proofs.Starting.{accepted-means}
-use Rattle.embed.specs.Embed.{held, machineIn, verdictWords, Starts}
+use Rattle.words.specs.Words.{verdictWords}
+use Rattle.memory.specs.Memory.{held, machineIn}
+use Rattle.embed.specs.Embed.{Starts}
 
 module _ (planText policyText : List ℕ) where
   started-means : (v : Verdict) → judge planText policyText ≡ v

@@ -1,3 +1,2 @@
-pub mod Answered
-pub mod Words
+pub mod Replayed
 pub mod Begun

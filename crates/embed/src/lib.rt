@@ -1,54 +1,14 @@
 // The monitor for a program in another language: exported functions over memory that the caller lends. What each promises
 // to a C program stands in include/monitor.h.
 use planrow::WORDS;
-use rules::Text;
-use rules::Verdict;
 ghost use mathlib.Core.Path.{_≡_};
-ghost use Prim.Native.Nat.{_/_, min};
-ghost use lib.ListN.{length, set};
 ghost use Rattle.machine.specs.Machine.{step, send, raise, lower};
-ghost use Rattle.machine.specs.State.{callOf};
 ghost use Rattle.planrow.specs.Row.{planOfRow};
 ghost use Rattle.rules.specs.Judge.{judge};
 ghost use Rattle.rules.specs.Show.{locate};
-ghost use Rattle.embed.specs.Embed.{textNumber, verdictWords, partWords, held, Starts, Answers, AllRefused, Runs, ReplayedAll};
-
-// The two words of a place.
-fn store(place: &mut [u32], next: u32, live: u32)
-    requires { ⌜ length (now place) ≡ 2 ⌝ }
-    ensures { λ _. ⌜ (now (place .exit) ≡ set (set (now (place .entry)) 0 next) 1 live) × (length (now (place .entry)) ≡ 2) ⌝ }
-{
-    place[0] = next;
-    place[1] = live;
-}
-
-fn text_number(text: Text) -> u32
-    ensures { λ r. ⌜ r ≡ textNumber text ⌝ }
-{
-    match text {
-        Text::Plan => 0,
-        Text::Policy => 1,
-    }
-}
-
-fn verdict_words(verdict: Verdict) -> [u32; 5]
-    ensures { λ r. ⌜ r ≡ verdictWords verdict ⌝ }
-{
-    match verdict {
-        Verdict::Accepted => [0, 0, 0, 0, 0],
-        Verdict::Broken(b) => [
-            1,
-            b.rule as u32,
-            b.first as u32,
-            b.second as u32,
-            b.identifier as u32,
-        ],
-        Verdict::Unread(f) => {
-            let text = f.text;
-            [2, text_number(text), f.number as u32, f.line, 0]
-        }
-    }
-}
+ghost use Rattle.words.specs.Words.{verdictWords, partWords};
+ghost use Rattle.memory.specs.Memory.{held, Answers, Runs};
+ghost use Rattle.embed.specs.Embed.{Starts, ReplayedAll};
 
 // Unread, broken or accepted.
 #[no_mangle]
@@ -56,7 +16,7 @@ pub extern "C" fn monitor_judge<'a>(plan: &'a [u8], policy: &'a [u8], words: &'a
     ensures { λ _. ⌜ now (words .exit) ≡ verdictWords (judge (now (plan .entry)) (now (policy .entry))) ⌝ }
 {
     let verdict = verdict::judge(plan, policy);
-    *words = verdict_words(verdict);
+    *words = words::verdict_words(verdict);
 }
 
 // Where the part lies that the verdict shows.
@@ -65,8 +25,7 @@ pub extern "C" fn monitor_locate<'a>(plan: &'a [u8], policy: &'a [u8], words: &'
     ensures { λ _. ⌜ now (words .exit) ≡ partWords (locate (now (plan .entry)) (now (policy .entry))) ⌝ }
 {
     let part = showing::locate(plan, policy);
-    let text = part.text;
-    *words = [arrays::index(text_number(text)), part.start, part.end];
+    *words = words::part_words(part);
 }
 
 // Judges both texts; writes the verdict, and the started state, blank where it is not accepted.
@@ -89,7 +48,7 @@ pub extern "C" fn monitor_start<'a>(
     let begun = monitor::start(plan, policy);
     let verdict = begun.verdict;
     let state = begun.state;
-    *words = verdict_words(verdict);
+    *words = words::verdict_words(verdict);
     let read = state.plan;
     *row = planrow::row_of(read);
     *place = [state.next, state.live];
@@ -101,42 +60,6 @@ pub extern "C" fn monitor_start<'a>(
     *labels = l;
     let g = state.tags;
     *tags = g;
-}
-
-// One call on a plan's row and the lent state.
-fn call<'a>(
-    row: &'a [u32; WORDS],
-    place: &'a mut [u32; 2],
-    serials: &'a mut [u32; 128],
-    templates: &'a mut [u32; 128],
-    labels: &'a mut [u32; 128],
-    tags: &'a mut [u32; 4096],
-    kind: u32,
-    x: u32,
-    y: u32,
-) -> u32
-    ensures { λ r.
-        let h = held (now (place .entry)) (now (serials .entry)) (now (templates .entry)) (now (labels .entry)) (now (tags .entry)) in
-        let k = held (now (place .exit)) (now (serials .exit)) (now (templates .exit)) (now (labels .exit)) (now (tags .exit)) in
-        ⌜ Answers (planOfRow (now (row .entry))) (callOf kind x y) h r k ⌝ }
-{
-    let next = place[0];
-    let live = place[1];
-    let r = monitor::run_call(
-        row,
-        next,
-        live,
-        serials,
-        templates,
-        labels,
-        tags,
-        kind,
-        x,
-        y,
-    );
-    let answer = r.answer;
-    store(place, r.next, r.live);
-    playback::code_of(answer) as u32
 }
 
 // Document 01, Step.
@@ -156,7 +79,7 @@ pub extern "C" fn monitor_step<'a>(
         let k = held (now (place .exit)) (now (serials .exit)) (now (templates .exit)) (now (labels .exit)) (now (tags .exit)) in
         ⌜ Answers (planOfRow (now (row .entry))) (step serial branch) h r k ⌝ }
 {
-    call(
+    memory::call(
         row,
         place,
         serials,
@@ -186,7 +109,7 @@ pub extern "C" fn monitor_send<'a>(
         let k = held (now (place .exit)) (now (serials .exit)) (now (templates .exit)) (now (labels .exit)) (now (tags .exit)) in
         ⌜ Answers (planOfRow (now (row .entry))) (send from to) h r k ⌝ }
 {
-    call(
+    memory::call(
         row,
         place,
         serials,
@@ -216,7 +139,7 @@ pub extern "C" fn monitor_raise<'a>(
         let k = held (now (place .exit)) (now (serials .exit)) (now (templates .exit)) (now (labels .exit)) (now (tags .exit)) in
         ⌜ Answers (planOfRow (now (row .entry))) (raise serial identifier) h r k ⌝ }
 {
-    call(
+    memory::call(
         row,
         place,
         serials,
@@ -246,7 +169,7 @@ pub extern "C" fn monitor_lower<'a>(
         let k = held (now (place .exit)) (now (serials .exit)) (now (templates .exit)) (now (labels .exit)) (now (tags .exit)) in
         ⌜ Answers (planOfRow (now (row .entry))) (lower serial identifier) h r k ⌝ }
 {
-    call(
+    memory::call(
         row,
         place,
         serials,
@@ -257,19 +180,6 @@ pub extern "C" fn monitor_lower<'a>(
         serial,
         identifier,
     )
-}
-
-// 20 for each call of a row that means no plan.
-fn refuse_all(words: usize, answers: &mut [u8]) -> usize
-    ensures { λ r. ⌜ (r ≡ min (words / 3) (length (now (answers .entry)))) × AllRefused r (now (answers .entry)) (now (answers .exit)) ⌝ }
-{
-    let n = playback::call_count(words, answers.len());
-    let mut i: usize = 0;
-    while i < n {
-        answers[i] = population::BAD_STATE;
-        i += 1;
-    }
-    n
 }
 
 // A list of calls, three words each, run through the lent state; as many as there are words and places for.
@@ -289,24 +199,7 @@ pub extern "C" fn monitor_run<'a>(
         let k = held (now (place .exit)) (now (serials .exit)) (now (templates .exit)) (now (labels .exit)) (now (tags .exit)) in
         ⌜ Runs (planOfRow (now (row .entry))) (now (calls .entry)) h (now (answers .entry)) r k (now (answers .exit)) ⌝ }
 {
-    if !planrow::is_plan(row) {
-        return refuse_all(calls.len(), answers);
-    }
-    let next = place[0];
-    let live = place[1];
-    let ran = playback::run_calls(
-        row,
-        next,
-        live,
-        serials,
-        templates,
-        labels,
-        tags,
-        calls,
-        answers,
-    );
-    store(place, ran.next, ran.live);
-    ran.count
+    memory::run(row, place, serials, templates, labels, tags, calls, answers)
 }
 
 // Both texts judged, the box started, and the calls run through it.
@@ -322,6 +215,6 @@ pub extern "C" fn monitor_replay<'a>(
 {
     let replayed = playback::replay(plan, policy, calls, answers);
     let verdict = replayed.verdict;
-    *words = verdict_words(verdict);
+    *words = words::verdict_words(verdict);
     replayed.count
 }

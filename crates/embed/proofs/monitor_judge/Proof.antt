@@ -1,6 +1,6 @@
 -- The words of the verdict that the judge gave.
 use mathlib.Core.Path.{ap, _∙_}
-use Rattle.embed.specs.Embed.{verdictWords}
+use Rattle.words.specs.Words.{verdictWords}
 use borrow.Author.Needs.{needs}
 use Rattle.embed.proofs.monitor_judge.Statement.{statement}
 use Rattle.embed.proofs.monitor_judge.Tie as tie

@@ -1,5 +1,5 @@
 -- What replay hands back, its verdict in words.
-use Rattle.embed.proofs.Words.{replayed-all}
+use Rattle.embed.proofs.Replayed.{replayed-all}
 use borrow.Author.Needs.{needs}
 use Rattle.embed.proofs.monitor_replay.Statement.{statement}
 use Rattle.embed.proofs.monitor_replay.Tie as tie

@@ -1,30 +1,18 @@
--- The judge's words, as the code meets them: v is the verdict, n the number of its text.
+-- What replay hands back, without its state.
 use Prim.Native.Nat.{ℕ, _≤_}
 use mathlib.Core.Path.{_≡_, refl, sym, ap, _∙_}
 use mathlib.Core.Logic.{_≢_}
-use mathlib.Core.List.{List, [], _∷_}
+use mathlib.Core.List.{List}
 use native.Mathlib.Omega.{arith}
 use lib.ListN.{length, getD}
 use Rattle.rules.specs.declared.Fault.{Fault}
 use Rattle.rules.specs.declared.Breach.{Breach}
-use Rattle.rules.specs.declared.Part.{Part}
 use Rattle.rules.specs.declared.Verdict.{Verdict}
 use Rattle.rules.specs.declared.Verdict.the-variants.{Accepted, Broken, Unread}
 use Rattle.machine.specs.declared.State.{State}
 use Rattle.playback.specs.Playback.{playable, Replays}
-use Rattle.embed.specs.Embed.{textNumber, verdictWords, partWords, ReplayedAll}
-
-pub broken-words : (v : Verdict) (b : Breach) → v ≡ Broken b → (1 ∷ b .rule ∷ b .first ∷ b .second ∷ b .identifier ∷ []) ≡ verdictWords v
-unfolding verdictWords
-broken-words v b e = ap verdictWords (sym e)
-
-pub unread-words : (v : Verdict) (f : Fault) (n : ℕ) → v ≡ Unread f → n ≡ textNumber (f .text) → (2 ∷ n ∷ f .number ∷ f .line ∷ 0 ∷ []) ≡ verdictWords v
-unfolding verdictWords
-unread-words v f n e q = ap (λ (n : ℕ). 2 ∷ n ∷ f .number ∷ f .line ∷ 0 ∷ []) q ∙ ap verdictWords (sym e)
-
-pub part-words : (p q : Part) (n w : ℕ) → n ≡ textNumber (p .text) → w ≡ n → p ≡ q → (w ∷ p .start ∷ p .end ∷ []) ≡ partWords q
-unfolding partWords
-part-words p q n w en ew e = ap (λ (n : ℕ). n ∷ p .start ∷ p .end ∷ []) (ew ∙ en) ∙ ap partWords e
+use Rattle.words.specs.Words.{verdictWords}
+use Rattle.embed.specs.Embed.{ReplayedAll}
 
 broken-not : (b : Breach) → Broken b ≢ Accepted
 broken-not b e = let z : _≡_ {A = ℕ} 0 1 = cc in omega arith
@@ -32,7 +20,6 @@ broken-not b e = let z : _≡_ {A = ℕ} 0 1 = cc in omega arith
 unread-not : (f : Fault) → Unread f ≢ Accepted
 unread-not f e = let z : _≡_ {A = ℕ} 0 1 = cc in omega arith
 
--- What replay hands back, without its state.
 module _ (planText policyText words places : List ℕ) (v : Verdict) (n : ℕ) (s : State) (filled : List ℕ)
     (w : Replays planText policyText words places v n s filled) where
   rest-of : (o : Verdict) → v ≡ o → (j : ℕ) → n ≤ j → getD filled j 0 ≡ getD places j 0

@@ -1,8 +1,8 @@
 -- What the call on the lent row and arrays did, its place stored.
 use borrow.Author.Needs.{needs}
-use Rattle.embed.proofs.Answered.{answered}
-use Rattle.embed.proofs.call.Statement.{statement}
-use Rattle.embed.proofs.call.Tie as tie
+use Rattle.memory.proofs.Answered.{answered}
+use Rattle.memory.proofs.call.Statement.{statement}
+use Rattle.memory.proofs.call.Tie as tie
 
 element-copy-out-next : tie.Need-element-copy-out-next
 element-copy-out-next c = search needs

@@ -1,9 +1,9 @@
 -- The first i answers are 20 (Refusing); the places that are left grow fewer.
 use Prim.Native.Nat.{_-_}
 use borrow.Author.Needs.{needs}
-use Rattle.embed.proofs.Answered.{Refusing, refusing-none, refusing-more, refusing-all}
-use Rattle.embed.proofs.refuse_all.Statement.{statement}
-use Rattle.embed.proofs.refuse_all.Tie as tie
+use Rattle.memory.proofs.Answered.{Refusing, refusing-none, refusing-more, refusing-all}
+use Rattle.memory.proofs.refuse_all.Statement.{statement}
+use Rattle.memory.proofs.refuse_all.Tie as tie
 
 abbrev Inv-loop : tie.InvT-loop
 Inv-loop words answers₀ n i₀ answers i = Refusing words answers₀ n answers i

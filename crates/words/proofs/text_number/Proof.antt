@@ -1,9 +1,9 @@
 -- By the text.
 use mathlib.Core.Path.{sym, ap}
-use Rattle.embed.specs.Embed.{textNumber}
+use Rattle.words.specs.Words.{textNumber}
 use borrow.Author.Needs.{needs}
-use Rattle.embed.proofs.text_number.Statement.{statement}
-use Rattle.embed.proofs.text_number.Tie as tie
+use Rattle.words.proofs.text_number.Statement.{statement}
+use Rattle.words.proofs.text_number.Tie as tie
 
 enum-told : tie.Need-enum-told
 enum-told c = search needs

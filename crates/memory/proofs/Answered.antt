@@ -22,7 +22,7 @@ use Rattle.population.specs.declared.Settled.{Settled}
 use Rattle.population.specs.Lent.{Same, LabelsAlone as Lent, unlessStep, Did}
 use Rattle.population.proofs.Lent.{run-unfit}
 use Rattle.playback.specs.Playback.{Played}
-use Rattle.embed.specs.Embed.{Held as Memory, machineIn, LabelsAlone, Touches, Answers, AllRefused, Runs}
+use Rattle.memory.specs.Memory.{Held as Memory, machineIn, LabelsAlone, Touches, Answers, AllRefused, Runs}
 
 -- ---- the row
 

@@ -1,10 +1,10 @@
 -- By the verdict.
 use mathlib.Core.Path.{sym, ap}
-use Rattle.embed.specs.Embed.{verdictWords}
-use Rattle.embed.proofs.Words.{broken-words, unread-words}
+use Rattle.words.specs.Words.{verdictWords}
+use Rattle.words.proofs.Words.{broken-words, unread-words}
 use borrow.Author.Needs.{needs}
-use Rattle.embed.proofs.verdict_words.Statement.{statement}
-use Rattle.embed.proofs.verdict_words.Tie as tie
+use Rattle.words.proofs.verdict_words.Statement.{statement}
+use Rattle.words.proofs.verdict_words.Tie as tie
 
 enum-told : tie.Need-enum-told
 enum-told c = search needs
