@@ -1,4 +1,5 @@
-// Stored cases, one after the other in one file: for each the lengths of its texts in hexadecimal digits, then the texts.
+// Stored cases, one after the other in one file: for each a header of hexadecimal digits (the lengths of its texts and, where
+// it has calls, the next serial), then the texts.
 ghost use Prim.Native.Nat.{_<_, _≤_};
 ghost use lib.ListN.{length};
 
@@ -21,8 +22,8 @@ fn nibble(b: u8) -> usize
     0
 }
 
-// A length of four digits from that place on; 0 where the header ends before them.
-fn length_at(header: &[u8], at: usize) -> usize
+// The number of four digits from that place on; 0 where the header ends before them.
+fn number_at(header: &[u8], at: usize) -> usize
     ensures { λ r. ⌜ r < 65536 ⌝ }
 {
     if header.len() < 4 {
@@ -66,8 +67,8 @@ pub fn read_pair(file: i32, plan: &mut [u8], policy: &mut [u8]) -> Pair
             policy: 0,
         };
     }
-    let n = read_text(file, plan, length_at(&header, 0));
-    let m = read_text(file, policy, length_at(&header, 4));
+    let n = read_text(file, plan, number_at(&header, 0));
+    let m = read_text(file, policy, number_at(&header, 4));
     Pair {
         found: true,
         plan: n,
@@ -77,7 +78,7 @@ pub fn read_pair(file: i32, plan: &mut [u8], policy: &mut [u8]) -> Pair
 
 // How many bytes of a case's two texts and of its calls are now in the buffers, and the next serial that its box starts
 // with; found is false where there is no case left.
-pub struct Listed {
+pub struct Run {
     pub found: bool,
     pub plan: usize,
     pub policy: usize,
@@ -87,12 +88,12 @@ pub struct Listed {
 
 // The next case of two texts and a list of calls. The calls' length has six digits, of which the first two are 0; the
 // next serial has eight.
-pub fn read_listed(file: i32, plan: &mut [u8], policy: &mut [u8], calls: &mut [u8]) -> Listed
+pub fn read_run(file: i32, plan: &mut [u8], policy: &mut [u8], calls: &mut [u8]) -> Run
     ensures { λ r. ⌜ (r .plan ≤ length (now (plan .exit))) × (r .policy ≤ length (now (policy .exit))) × (r .calls ≤ length (now (calls .exit))) ⌝ }
 {
     let mut header: [u8; 22] = [0; 22];
     if read_text(file, &mut header, 22) < 22 {
-        return Listed {
+        return Run {
             found: false,
             plan: 0,
             policy: 0,
@@ -100,12 +101,12 @@ pub fn read_listed(file: i32, plan: &mut [u8], policy: &mut [u8], calls: &mut [u
             next: 0,
         };
     }
-    let n = read_text(file, plan, length_at(&header, 0));
-    let m = read_text(file, policy, length_at(&header, 4));
-    let c = read_text(file, calls, length_at(&header, 10));
-    let high = length_at(&header, 14) as u32;
-    let low = length_at(&header, 18) as u32;
-    Listed {
+    let n = read_text(file, plan, number_at(&header, 0));
+    let m = read_text(file, policy, number_at(&header, 4));
+    let c = read_text(file, calls, number_at(&header, 10));
+    let high = number_at(&header, 14) as u32;
+    let low = number_at(&header, 18) as u32;
+    Run {
         found: true,
         plan: n,
         policy: m,

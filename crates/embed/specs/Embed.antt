@@ -1,4 +1,5 @@
--- What the exported functions answer and leave, beside the calls on lent memory (crate memory).
+-- What start leaves and what replay hands back (include/monitor.h). Judge and locate: crate words; calls on lent memory:
+-- crate memory.
 -- Believed: everything here. Proved against it: crate embed.
 use Prim.Native.Nat.{ℕ, _≤_, _<_}
 use mathlib.Core.Path.{_≡_}

@@ -125,7 +125,7 @@ runs-some row plan means place c n next live d place′ words places filled ep e
     (en, subst (λ (m : Machine). Played (machineFrom plan (getD place 0 0) (getD place 1 0) c) n words places m filled) (sym (stored plan place next live d (ep .1))) w))
 
 -- Each is 20, and nothing else is touched.
-pub runs-none : (row : List ℕ) (h : Memory) (words places filled : List ℕ) (n : ℕ) → planOfRow row ≡ none
+runs-none : (row : List ℕ) (h : Memory) (words places filled : List ℕ) (n : ℕ) → planOfRow row ≡ none
     → (n ≡ min (length words / 3) (length places)) × AllRefused n places filled
     → Runs (planOfRow row) words h places n h filled
 unfolding Runs

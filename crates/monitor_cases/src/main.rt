@@ -1,6 +1,7 @@
 // Runs stored lists of calls on stored pairs of texts: for each what replay prints. A case names the next serial that
 // the box starts with: 1, as every started box has it, or one so late that serials run out.
 
+// What replay prints, from that next serial on.
 fn print_case<'a>(plan: &'a [u8], policy: &'a [u8], calls: &'a [u8], next: u32) {
     if next == 1 {
         transcript::print_replay(plan, policy, calls);
@@ -14,7 +15,7 @@ fn one_case(file: i32) -> bool {
     let mut plan = io::large_buffer();
     let mut policy = io::large_buffer();
     let mut calls = io::large_buffer();
-    let case = corpus::read_listed(file, &mut plan, &mut policy, &mut calls);
+    let case = corpus::read_run(file, &mut plan, &mut policy, &mut calls);
     if !case.found {
         return false;
     }

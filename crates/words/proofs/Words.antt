@@ -1,7 +1,7 @@
--- The words, as the code meets them: v is the verdict, p the part, n the number of its text.
+-- The words, as the code meets them: v is the verdict, p the part, n the number of its text, w that number as a usize.
 use Prim.Native.Nat.{ℕ}
 use mathlib.Core.Path.{_≡_, sym, ap, _∙_}
-use mathlib.Core.List.{List, [], _∷_}
+use mathlib.Core.List.{[], _∷_}
 use Rattle.rules.specs.declared.Fault.{Fault}
 use Rattle.rules.specs.declared.Breach.{Breach}
 use Rattle.rules.specs.declared.Part.{Part}
