@@ -1,3 +1,2 @@
-pub mod Called
 pub mod Kept
 pub mod Starting

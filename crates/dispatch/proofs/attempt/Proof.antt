@@ -1,8 +1,8 @@
 -- The kind tells which attempt it is.
 use borrow.Author.Needs.{needs}
-use Rattle.monitor.proofs.Called.{called-step, called-send, called-move}
-use Rattle.monitor.proofs.attempt.Statement.{statement}
-use Rattle.monitor.proofs.attempt.Tie as tie
+use Rattle.dispatch.proofs.Called.{called-step, called-send, called-move}
+use Rattle.dispatch.proofs.attempt.Statement.{statement}
+use Rattle.dispatch.proofs.attempt.Tie as tie
 
 attempt-requires : tie.Need-attempt-requires
 attempt-requires c κs = search needs

@@ -1,8 +1,8 @@
 -- 20, else what the attempt did.
 use borrow.Author.Needs.{needs}
 use Rattle.population.proofs.Lent.{asked-bad, asked}
-use Rattle.monitor.proofs.run_call.Statement.{statement}
-use Rattle.monitor.proofs.run_call.Tie as tie
+use Rattle.dispatch.proofs.run_call.Statement.{statement}
+use Rattle.dispatch.proofs.run_call.Tie as tie
 
 is-well-formed-requires : tie.Need-is-well-formed-requires
 is-well-formed-requires c κs = search needs
