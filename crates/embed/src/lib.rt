@@ -86,7 +86,7 @@ pub extern "C" fn monitor_step<'a>(
         templates,
         labels,
         tags,
-        monitor::STEP,
+        dispatch::STEP,
         serial,
         branch,
     )
@@ -116,7 +116,7 @@ pub extern "C" fn monitor_send<'a>(
         templates,
         labels,
         tags,
-        monitor::SEND,
+        dispatch::SEND,
         from,
         to,
     )
@@ -146,7 +146,7 @@ pub extern "C" fn monitor_raise<'a>(
         templates,
         labels,
         tags,
-        monitor::RAISE,
+        dispatch::RAISE,
         serial,
         identifier,
     )
@@ -176,7 +176,7 @@ pub extern "C" fn monitor_lower<'a>(
         templates,
         labels,
         tags,
-        monitor::LOWER,
+        dispatch::LOWER,
         serial,
         identifier,
     )
@@ -213,7 +213,7 @@ pub extern "C" fn monitor_replay<'a>(
 ) -> usize
     ensures { λ r. ⌜ ReplayedAll (now (plan .entry)) (now (policy .entry)) (now (calls .entry)) (now (answers .entry)) (now (words .exit)) r (now (answers .exit)) ⌝ }
 {
-    let replayed = playback::replay(plan, policy, calls, answers);
+    let replayed = replaying::replay(plan, policy, calls, answers);
     let verdict = replayed.verdict;
     *words = words::verdict_words(verdict);
     replayed.count

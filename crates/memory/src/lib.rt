@@ -36,7 +36,7 @@ pub fn call<'a>(
 {
     let next = place[0];
     let live = place[1];
-    let r = monitor::run_call(
+    let r = dispatch::run_call(
         row,
         next,
         live,

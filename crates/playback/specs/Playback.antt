@@ -1,5 +1,5 @@
 -- What a list of calls leaves, the answers in a lent row of numbers; and what replay hands back, with the box promise.
--- Believed: everything here. Proved against it: crate playback.
+-- Believed: everything here. Proved against it: crates playback and replaying.
 use Prim.Native.Nat.{ℕ, _/_, min, _≤_, _<_}
 use mathlib.Core.{Path.{_≡_}, Logic.{_≢_}, List.{List}}
 use lib.ListN.{length, getD}

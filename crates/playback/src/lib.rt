@@ -1,15 +1,13 @@
-// A list of calls, three words each: on a lent row and lent arrays, and from the two texts.
+// A list of calls, three words each, on a lent row and lent arrays.
 use machine::Answer;
-use machine::State;
 use planrow::WORDS;
-use rules::Verdict;
 ghost use mathlib.Core.Path.{_≡_};
 ghost use Prim.Native.Nat.{_≤_, _*_, _/_, min};
 ghost use lib.ListN.{length};
 ghost use Rattle.planrow.specs.Lookup.{planFor};
 ghost use Rattle.machine.specs.State.{machineFrom, codeOf};
 ghost use Rattle.population.specs.Arrays.{cells};
-ghost use Rattle.playback.specs.Playback.{Played, Replays};
+ghost use Rattle.playback.specs.Playback.{Played};
 
 // What a list of calls leaves beside the arrays, and how many calls were run.
 pub struct Place {
@@ -61,7 +59,7 @@ pub fn run_calls<'a>(
     let mut l = live;
     let mut i: usize = 0;
     while i < n {
-        let r = monitor::run_call(
+        let r = dispatch::run_call(
             row,
             z,
             l,
@@ -83,65 +81,5 @@ pub fn run_calls<'a>(
         next: z,
         live: l,
         count: n,
-    }
-}
-
-// What replay hands back: the judge's verdict, how many calls were played, and the state after them, blank where the
-// verdict is not accepted.
-pub struct Replayed {
-    pub verdict: Verdict,
-    pub count: usize,
-    pub state: State,
-}
-
-// Both texts judged, the box started, and the calls run through it, the answers written to the row.
-pub fn replay<'a>(
-    plan: &'a [u8],
-    policy: &'a [u8],
-    calls: &'a [u32],
-    answers: &'a mut [u8],
-) -> Replayed
-    ensures { λ r. ⌜ Replays (now (plan .entry)) (now (policy .entry)) (now (calls .entry)) (now (answers .entry)) (r .verdict) (r .count) (r .state) (now (answers .exit)) ⌝ }
-{
-    let started = monitor::start(plan, policy);
-    let verdict = started.verdict;
-    let state = started.state;
-    if !rules::is_accepted(verdict) {
-        return Replayed {
-            verdict: verdict,
-            count: 0,
-            state: state,
-        };
-    }
-    let read = state.plan;
-    let row = planrow::row_of(read);
-    let mut serials = state.serials;
-    let mut templates = state.templates;
-    let mut labels = state.labels;
-    let mut tags = state.tags;
-    let r = run_calls(
-        &row,
-        state.next,
-        state.live,
-        &mut serials,
-        &mut templates,
-        &mut labels,
-        &mut tags,
-        calls,
-        answers,
-    );
-    let after = State {
-        plan: read,
-        next: r.next,
-        live: r.live,
-        serials: serials,
-        templates: templates,
-        labels: labels,
-        tags: tags,
-    };
-    Replayed {
-        verdict: verdict,
-        count: r.count,
-        state: after,
     }
 }

@@ -3,7 +3,11 @@
 // raise, 3 lower) and its two numbers.
 
 ghost use Prim.Native.Nat.{_≤_};
+ghost use mathlib.Core.Path.{_≡_};
 ghost use lib.ListN.{length};
+
+// The longest text of calls.
+const LONGEST: usize = 65536;
 
 pub enum Number {
     Is(u32),
@@ -110,7 +114,7 @@ pub struct Script {
 }
 
 // The calls of a text, up to the first line that is no call.
-pub fn read_calls(text: &[u8], words: &mut [u32]) -> Script
+fn read_lines(text: &[u8], words: &mut [u32]) -> Script
     ensures { λ r. ⌜ r .count ≤ length (now (words .exit)) ⌝ }
 {
     let mut at = 0;
@@ -145,4 +149,32 @@ pub fn read_calls(text: &[u8], words: &mut [u32]) -> Script
         count: count,
         fault: false,
     }
+}
+
+// The words of the calls; a text that is too long is one fault, at line 0.
+pub fn read_calls(text: &[u8], words: &mut [u32]) -> Script
+    ensures { λ r. ⌜ r .count ≤ length (now (words .exit)) ⌝ }
+{
+    if LONGEST < text.len() {
+        return Script {
+            count: 0,
+            fault: true,
+        };
+    }
+    read_lines(text, words)
+}
+
+// The line of a fault after so many words.
+pub fn fault_line(text: &[u8], count: usize) -> u64 {
+    if LONGEST < text.len() {
+        return 0;
+    }
+    (count / 3) as u64 + 1
+}
+
+// Room for the words of the longest text of calls.
+pub fn word_room() -> [u32; 24576]
+    ensures { λ r. ⌜ 24576 ≡ length r ⌝ }
+{
+    [0; 24576]
 }

@@ -3,8 +3,8 @@ use Prim.Native.Nat.{_-_, _≤_}
 use mathlib.Core.Path.{_≡_}
 use lib.ListN.{length}
 use borrow.Author.Needs.{needs}
-use Rattle.script.proofs.read_calls.Statement.{statement}
-use Rattle.script.proofs.read_calls.Tie as tie
+use Rattle.script.proofs.read_lines.Statement.{statement}
+use Rattle.script.proofs.read_lines.Tie as tie
 use Rattle.scan.proofs.find.Reads as find-reads
 use Rattle.script.proofs.put.Reads as put-reads
 use Rattle.script.proofs.read_line.Reads as read-line-reads
@@ -111,8 +111,8 @@ same-length-4 c = search needs
 returns-4 : tie.Need-returns-4 Inv-loop μ-loop
 returns-4 c = search needs
 
-pub read-calls-spec : {M : Type 1} → statement M
-read-calls-spec =
+pub read-lines-spec : {M : Type 1} → statement M
+read-lines-spec =
     tie.close
     (tie.spec
     Inv-loop

@@ -16,12 +16,12 @@ use Rattle.rules.specs.Judge.{judge}
 use Rattle.rules.specs.Broken.{accepted}
 use Rattle.machine.specs.declared.State.{State}
 use Rattle.machine.specs.Machine.{Machine, start}
-use Rattle.machine.specs.State.{Cells, machineFrom, cellsOf, machineOf, blankState, startOn, started}
-use Rattle.monitor.proofs.Kept.{rebuilt}
+use Rattle.machine.specs.State.{machineFrom, cellsOf, machineOf, blankState, startOn, started}
 use Rattle.monitor.proofs.Starting.{is-accepted, not-accepted, accepted-row}
 use Rattle.promise.specs.Replay.{callsIn}
 use Rattle.promise.proofs.Promise.{box-promise}
 use Rattle.playback.specs.Playback.{Played, playable, Replays}
+use Rattle.replaying.specs.Playing.{PlayedOn}
 
 none-playable : (v : Verdict) → v ≢ Accepted → (words places : ℕ) → 0 ≡ playable v words places
 unfolding playable
@@ -48,28 +48,29 @@ module _ (planText policyText words before : List ℕ) (v : Verdict) (s : State)
   unfolding started startOn
   begun a = w .1 ∙ ap (λ (v : Verdict). startOn v (readPlan planText .plan)) (sym (w .0) ∙ a)
 
-  -- The row of the started plan stands for it.
-  same-plan : v ≡ Accepted → (row : List ℕ) → row ≡ rowOfPlan (s .plan) → planFor row ≡ s .plan
+  -- The plan that the row of the started plan stands for is that plan.
+  same-plan : v ≡ Accepted → planFor (rowOfPlan (s .plan)) ≡ s .plan
   unfolding start machineOf machineFrom
-  same-plan a row er = ap planFor (er ∙ ap rowOfPlan read) ∙ accepted-row planText policyText (sym (w .0) ∙ a) ∙ sym read
+  same-plan a = ap (λ (plan : Plan). planFor (rowOfPlan plan)) read ∙ accepted-row planText policyText (sym (w .0) ∙ a) ∙ sym read
     where
       read : s .plan ≡ readPlan planText .plan
       read = ap (λ (m : Machine). m .plan) (begun a)
 
-  pub replays-so : not g ≡ false → (row : List ℕ) → row ≡ rowOfPlan (s .plan)
-      → (n : ℕ) → n ≡ min (length words / 3) (length before) → (next live : ℕ) (d : Cells) (after : List ℕ)
-      → Played (machineFrom (planFor row) (s .next) (s .live) (cellsOf s)) n words before (machineFrom (planFor row) next live d) after
-      → Replays planText policyText words before v n (rebuilt s next live d) after
+  pub replays-so : not g ≡ false → (n : ℕ) (left : State) (after : List ℕ) → PlayedOn s words before n left after
+      → Replays planText policyText words before v n left after
   unfolding playable machineOf
-  replays-so h row er n en next live d after p =
+  replays-so h n left after p =
       let a : v ≡ Accepted = is-accepted v (sym eg ∙ not-false g h) in
-      let q : Played (machineOf s) n words before (machineOf (rebuilt s next live d)) after =
-      subst (λ (plan : Plan). Played (machineFrom plan (s .next) (s .live) (cellsOf s)) n words before (machineFrom plan next live d) after)
-      (same-plan a row er) p in
+      let q : Played (machineOf s) n words before (machineFrom (s .plan) (left .next) (left .live) (cellsOf left)) after =
+      subst (λ (plan : Plan). Played (machineFrom plan (s .next) (s .live) (cellsOf s)) n words before (machineFrom plan (left .next) (left .live) (cellsOf left)) after)
+      (same-plan a) (p .played) in
+      let q′ : Played (machineOf s) n words before (machineOf left) after =
+      subst (λ (plan : Plan). Played (machineOf s) n words before (machineFrom plan (left .next) (left .live) (cellsOf left)) after)
+      (sym (p .same-plan)) q in
       record {
         judged = w .0;
-        counted = en ∙ ap (λ (v : Verdict). playable v (length words) (length before)) (sym a);
-        played = λ a. subst (λ (m : Machine). Played m n words before (machineOf (rebuilt s next live d)) after) (begun a) q;
+        counted = p .counted ∙ ap (λ (v : Verdict). playable v (length words) (length before)) (sym a);
+        played = λ a. subst (λ (m : Machine). Played m n words before (machineOf left) after) (begun a) q′;
         promised = λ a. box-promise planText policyText (sym (w .0) ∙ a) (callsIn n words);
         untouched = λ o. absurd (o a);
       }
