@@ -1,9 +1,9 @@
 // The lines of the two texts. A reader takes the text and a position, and gives the line's value and the next position.
 // Once a line is refused the position stays there: later lines are not looked at, and what they give is blank.
-use field::FormField;
-use field::KindField;
 use field::NumberField;
-use field::RiskField;
+use forms::FormField;
+use forms::KindField;
+use forms::RiskField;
 use plan::Form;
 use plan::Kind;
 use plan::Plan;
@@ -195,7 +195,7 @@ pub fn form_line(text: &[u8], from: Position, n: u8) -> FormLine
             value: Form::End,
             next,
         },
-        Line::Open(start, end, line) => match field::read_form(&text[start..end], n) {
+        Line::Open(start, end, line) => match forms::read_form(&text[start..end], n) {
             FormField::Bad(number) => FormLine {
                 value: Form::End,
                 next: Position::Stopped(number, line),
@@ -219,7 +219,7 @@ pub fn risk_line(text: &[u8], from: Position) -> RiskLine
 {
     match open_line(text, from, b"risk=") {
         Line::Closed(next) => RiskLine { value: false, next },
-        Line::Open(start, end, line) => match field::read_risk(&text[start..end]) {
+        Line::Open(start, end, line) => match forms::read_risk(&text[start..end]) {
             RiskField::Bad(number) => RiskLine {
                 value: false,
                 next: Position::Stopped(number, line),
@@ -246,7 +246,7 @@ pub fn kind_line(text: &[u8], from: Position) -> KindLine
             value: Kind::Secrecy,
             next,
         },
-        Line::Open(start, end, line) => match field::read_kind(&text[start..end]) {
+        Line::Open(start, end, line) => match forms::read_kind(&text[start..end]) {
             KindField::Bad(number) => KindLine {
                 value: Kind::Secrecy,
                 next: Position::Stopped(number, line),

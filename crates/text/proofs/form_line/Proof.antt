@@ -1,5 +1,5 @@
 -- The line is opened, then its field read.
-use Rattle.field.proofs.Answers.{answers}
+use Rattle.forms.proofs.Answers.{answers}
 use Rattle.text.proofs.Lines.{ways, places}
 use Rattle.text.proofs.form_line.Statement.{statement}
 use Rattle.text.proofs.form_line.Tie as tie

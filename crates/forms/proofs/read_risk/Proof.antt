@@ -1,8 +1,8 @@
 -- The words are tried in the definition's order.
 use Rattle.scan.proofs.Ways.{cond-yes, cond-no}
-use Rattle.field.specs.Fields.{kind}
-use Rattle.field.proofs.read_kind.Statement.{statement}
-use Rattle.field.proofs.read_kind.Tie as tie
+use Rattle.field.specs.Fields.{risk}
+use Rattle.forms.proofs.read_risk.Statement.{statement}
+use Rattle.forms.proofs.read_risk.Tie as tie
 
 slice-aggregate-same-bytes : tie.Need-slice-aggregate-same-bytes
 slice-aggregate-same-bytes c = search
@@ -11,7 +11,7 @@ same-bytes-requires : tie.Need-same-bytes-requires
 same-bytes-requires c κs = search
 
 returns : tie.Need-returns
-unfolding kind
+unfolding risk
 returns c = search (cond-yes, cond-no)
 
 slice-aggregate-same-bytes-2 : tie.Need-slice-aggregate-same-bytes-2
@@ -21,15 +21,15 @@ same-bytes-requires-2 : tie.Need-same-bytes-requires-2
 same-bytes-requires-2 c κs = search
 
 returns-2 : tie.Need-returns-2
-unfolding kind
+unfolding risk
 returns-2 c = search (cond-yes, cond-no)
 
 returns-3 : tie.Need-returns-3
-unfolding kind
+unfolding risk
 returns-3 c = search (cond-yes, cond-no)
 
-pub read-kind-spec : {M : Type 1} → statement M
-read-kind-spec =
+pub read-risk-spec : {M : Type 1} → statement M
+read-risk-spec =
     tie.close
     (tie.spec
     slice-aggregate-same-bytes

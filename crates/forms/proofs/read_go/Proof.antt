@@ -1,7 +1,8 @@
 -- A template number that was read is below n, so it is a byte.
-use Rattle.field.proofs.Words.{go-bad, go-is, number-fits}
-use Rattle.field.proofs.read_go.Statement.{statement}
-use Rattle.field.proofs.read_go.Tie as tie
+use Rattle.field.proofs.Answers.{number-fits}
+use Rattle.forms.proofs.Forms.{go-bad, go-is}
+use Rattle.forms.proofs.read_go.Statement.{statement}
+use Rattle.forms.proofs.read_go.Tie as tie
 
 read-number-requires : tie.Need-read-number-requires
 read-number-requires c κs = search

@@ -2,11 +2,11 @@
 use Rattle.scan.specs.Bytes.{bytes}
 use Rattle.scan.proofs.Ways.{cond-yes, cond-no}
 use Rattle.scan.proofs.Steps.{starts-room}
 use Rattle.field.specs.Fields.{form}
-use Rattle.field.proofs.Words.{after-go, after-pair}
+use Rattle.forms.proofs.Forms.{after-go, after-pair}
 use borrow.Author.Needs.{needs}
-use Rattle.field.proofs.read_form.Statement.{statement}
-use Rattle.field.proofs.read_form.Tie as tie
+use Rattle.forms.proofs.read_form.Statement.{statement}
+use Rattle.forms.proofs.read_form.Tie as tie
 
 slice-aggregate-same-bytes : tie.Need-slice-aggregate-same-bytes
 slice-aggregate-same-bytes c = search
