@@ -1,8 +1,8 @@
 -- The line is opened, then its field read.
 use Rattle.forms.proofs.Answers.{answers}
 use Rattle.text.proofs.Lines.{ways, places}
-use Rattle.text.proofs.risk_line.Statement.{statement}
-use Rattle.text.proofs.risk_line.Tie as tie
+use Rattle.lines.proofs.kind_line.Statement.{statement}
+use Rattle.lines.proofs.kind_line.Tie as tie
 
 slice-aggregate-open-line : tie.Need-slice-aggregate-open-line
 slice-aggregate-open-line c = search
@@ -16,29 +16,29 @@ enum-known-next c = search
 enum-known-start : tie.Need-enum-known-start
 enum-known-start c = search
 
-sub-read-risk : tie.Need-sub-read-risk
-sub-read-risk c = search places
+sub-read-kind : tie.Need-sub-read-kind
+sub-read-kind c = search places
 
-part-read-risk-start : tie.Need-part-read-risk-start
-part-read-risk-start c = search places
+part-read-kind-start : tie.Need-part-read-kind-start
+part-read-kind-start c = search places
 
-part-read-risk-end : tie.Need-part-read-risk-end
-part-read-risk-end c = search places
+part-read-kind-end : tie.Need-part-read-kind-end
+part-read-kind-end c = search places
 
-read-risk-requires : tie.Need-read-risk-requires
-read-risk-requires c κs = search
+read-kind-requires : tie.Need-read-kind-requires
+read-kind-requires c κs = search
 
 enum-known-number : tie.Need-enum-known-number
 enum-known-number c = search
 
-enum-known-b : tie.Need-enum-known-b
-enum-known-b c = search
+enum-known-k : tie.Need-enum-known-k
+enum-known-k c = search
 
-add-t21 : tie.Need-add-t21
-add-t21 c = search places
+add-t23 : tie.Need-add-t23
+add-t23 c = search places
 
-add-t22 : tie.Need-add-t22
-add-t22 c = search places
+add-t24 : tie.Need-add-t24
+add-t24 c = search places
 
 returns : tie.Need-returns
 returns c = search ways
@@ -49,22 +49,22 @@ returns-2 c = search (ways, answers)
 returns-3 : tie.Need-returns-3
 returns-3 c = search (ways, answers)
 
-pub risk-line-spec : {M : Type 1} → statement M
-risk-line-spec =
+pub kind-line-spec : {M : Type 1} → statement M
+kind-line-spec =
     tie.close
     (tie.spec
     slice-aggregate-open-line
     open-line-requires
     enum-known-next
     enum-known-start
-    sub-read-risk
-    part-read-risk-start
-    part-read-risk-end
-    read-risk-requires
+    sub-read-kind
+    part-read-kind-start
+    part-read-kind-end
+    read-kind-requires
     enum-known-number
-    enum-known-b
-    add-t21
-    add-t22
+    enum-known-k
+    add-t23
+    add-t24
     returns
     returns-2
     returns-3)

@@ -1,8 +1,8 @@
 -- The line is opened, then its field read.
 use Rattle.text.proofs.Lines.{ways, places}
-use Rattle.text.proofs.Names.{name-fresh, name-bad}
-use Rattle.text.proofs.name_line.Statement.{statement}
-use Rattle.text.proofs.name_line.Tie as tie
+use Rattle.lines.proofs.Names.{name-fresh, name-bad}
+use Rattle.lines.proofs.name_line.Statement.{statement}
+use Rattle.lines.proofs.name_line.Tie as tie
 
 slice-aggregate-open-line : tie.Need-slice-aggregate-open-line
 slice-aggregate-open-line c = search

@@ -1,8 +1,8 @@
 -- The line is opened, then its field read.
 use Rattle.forms.proofs.Answers.{answers}
 use Rattle.text.proofs.Lines.{ways, places}
-use Rattle.text.proofs.form_line.Statement.{statement}
-use Rattle.text.proofs.form_line.Tie as tie
+use Rattle.lines.proofs.risk_line.Statement.{statement}
+use Rattle.lines.proofs.risk_line.Tie as tie
 
 slice-aggregate-open-line : tie.Need-slice-aggregate-open-line
 slice-aggregate-open-line c = search
@@ -16,29 +16,29 @@ enum-known-next c = search
 enum-known-start : tie.Need-enum-known-start
 enum-known-start c = search
 
-sub-read-form : tie.Need-sub-read-form
-sub-read-form c = search places
+sub-read-risk : tie.Need-sub-read-risk
+sub-read-risk c = search places
 
-part-read-form-start : tie.Need-part-read-form-start
-part-read-form-start c = search places
+part-read-risk-start : tie.Need-part-read-risk-start
+part-read-risk-start c = search places
 
-part-read-form-end : tie.Need-part-read-form-end
-part-read-form-end c = search places
+part-read-risk-end : tie.Need-part-read-risk-end
+part-read-risk-end c = search places
 
-read-form-requires : tie.Need-read-form-requires
-read-form-requires c κs = search
+read-risk-requires : tie.Need-read-risk-requires
+read-risk-requires c κs = search
 
 enum-known-number : tie.Need-enum-known-number
 enum-known-number c = search
 
-enum-known-f : tie.Need-enum-known-f
-enum-known-f c = search
+enum-known-b : tie.Need-enum-known-b
+enum-known-b c = search
 
-add-t24 : tie.Need-add-t24
-add-t24 c = search places
+add-t21 : tie.Need-add-t21
+add-t21 c = search places
 
-add-t25 : tie.Need-add-t25
-add-t25 c = search places
+add-t22 : tie.Need-add-t22
+add-t22 c = search places
 
 returns : tie.Need-returns
 returns c = search ways
@@ -49,22 +49,22 @@ returns-2 c = search (ways, answers)
 returns-3 : tie.Need-returns-3
 returns-3 c = search (ways, answers)
 
-pub form-line-spec : {M : Type 1} → statement M
-form-line-spec =
+pub risk-line-spec : {M : Type 1} → statement M
+risk-line-spec =
     tie.close
     (tie.spec
     slice-aggregate-open-line
     open-line-requires
     enum-known-next
     enum-known-start
-    sub-read-form
-    part-read-form-start
-    part-read-form-end
-    read-form-requires
+    sub-read-risk
+    part-read-risk-start
+    part-read-risk-end
+    read-risk-requires
     enum-known-number
-    enum-known-f
-    add-t24
-    add-t25
+    enum-known-b
+    add-t21
+    add-t22
     returns
     returns-2
     returns-3)

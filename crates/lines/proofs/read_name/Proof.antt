@@ -1,7 +1,7 @@
 -- The layout first, then the names that stood.
-use Rattle.text.proofs.Names.{name-layout, name-stood, name-is}
-use Rattle.text.proofs.read_name.Statement.{statement}
-use Rattle.text.proofs.read_name.Tie as tie
+use Rattle.lines.proofs.Names.{name-layout, name-stood, name-is}
+use Rattle.lines.proofs.read_name.Statement.{statement}
+use Rattle.lines.proofs.read_name.Tie as tie
 
 is-name-requires : tie.Need-is-name-requires
 is-name-requires c κs = search

@@ -1,8 +1,8 @@
 -- The line is opened, then its field read.
 use Rattle.forms.proofs.Answers.{answers}
 use Rattle.text.proofs.Lines.{ways, places}
-use Rattle.text.proofs.kind_line.Statement.{statement}
-use Rattle.text.proofs.kind_line.Tie as tie
+use Rattle.lines.proofs.form_line.Statement.{statement}
+use Rattle.lines.proofs.form_line.Tie as tie
 
 slice-aggregate-open-line : tie.Need-slice-aggregate-open-line
 slice-aggregate-open-line c = search
@@ -16,29 +16,29 @@ enum-known-next c = search
 enum-known-start : tie.Need-enum-known-start
 enum-known-start c = search
 
-sub-read-kind : tie.Need-sub-read-kind
-sub-read-kind c = search places
+sub-read-form : tie.Need-sub-read-form
+sub-read-form c = search places
 
-part-read-kind-start : tie.Need-part-read-kind-start
-part-read-kind-start c = search places
+part-read-form-start : tie.Need-part-read-form-start
+part-read-form-start c = search places
 
-part-read-kind-end : tie.Need-part-read-kind-end
-part-read-kind-end c = search places
+part-read-form-end : tie.Need-part-read-form-end
+part-read-form-end c = search places
 
-read-kind-requires : tie.Need-read-kind-requires
-read-kind-requires c κs = search
+read-form-requires : tie.Need-read-form-requires
+read-form-requires c κs = search
 
 enum-known-number : tie.Need-enum-known-number
 enum-known-number c = search
 
-enum-known-k : tie.Need-enum-known-k
-enum-known-k c = search
-
-add-t23 : tie.Need-add-t23
-add-t23 c = search places
+enum-known-f : tie.Need-enum-known-f
+enum-known-f c = search
 
 add-t24 : tie.Need-add-t24
 add-t24 c = search places
+
+add-t25 : tie.Need-add-t25
+add-t25 c = search places
 
 returns : tie.Need-returns
 returns c = search ways
@@ -49,22 +49,22 @@ returns-2 c = search (ways, answers)
 returns-3 : tie.Need-returns-3
 returns-3 c = search (ways, answers)
 
-pub kind-line-spec : {M : Type 1} → statement M
-kind-line-spec =
+pub form-line-spec : {M : Type 1} → statement M
+form-line-spec =
     tie.close
     (tie.spec
     slice-aggregate-open-line
     open-line-requires
     enum-known-next
     enum-known-start
-    sub-read-kind
-    part-read-kind-start
-    part-read-kind-end
-    read-kind-requires
+    sub-read-form
+    part-read-form-start
+    part-read-form-end
+    read-form-requires
     enum-known-number
-    enum-known-k
-    add-t23
+    enum-known-f
     add-t24
+    add-t25
     returns
     returns-2
     returns-3)

@@ -13,9 +13,10 @@ use Rattle.scan.specs.Bytes.{same, standsIn}
 use Rattle.lists.proofs.Tests.{told}
 use Rattle.field.specs.Fields.{Field, is, bad, name}
 use Rattle.field.specs.Answers.{isName}
-use Rattle.text.specs.Cursors.{part, namesOf, nameOf}
-use Rattle.text.specs.declared.NameField.{NameField}
-use Rattle.text.specs.declared.NameField.the-variants.{Fresh, Bad}
+use Rattle.text.specs.Cursors.{part}
+use Rattle.lines.specs.Names.{namesOf, nameOf}
+use Rattle.lines.specs.declared.NameField.{NameField}
+use Rattle.lines.specs.declared.NameField.the-variants.{Fresh, Bad}
 
 -- Past the end of a row.
 pub place-past : (row : List ℕ) (j : ℕ) → length row ≤ j → 0 ≡ getD row j 0

@@ -1,8 +1,8 @@
 -- In the row its element, past its end 0.
-use Rattle.text.proofs.Names.{place-past}
+use Rattle.lines.proofs.Names.{place-past}
 use borrow.Author.Needs.{needs}
-use Rattle.text.proofs.place_at.Statement.{statement}
-use Rattle.text.proofs.place_at.Tie as tie
+use Rattle.lines.proofs.place_at.Statement.{statement}
+use Rattle.lines.proofs.place_at.Tie as tie
 
 mul-result : tie.Need-mul-result
 mul-result c = search needs

@@ -2,10 +2,10 @@
 use mathlib.Core.Path.{_≡_, refl}
 use borrow.Author.Needs.{needs}
 use Rattle.scan.specs.Bytes.{standsIn}
-use Rattle.text.specs.Cursors.{namesOf}
-use Rattle.text.proofs.Names.{stood-none, stood-here, stood-on}
-use Rattle.text.proofs.name_stood.Statement.{statement}
-use Rattle.text.proofs.name_stood.Tie as tie
+use Rattle.lines.specs.Names.{namesOf}
+use Rattle.lines.proofs.Names.{stood-none, stood-here, stood-on}
+use Rattle.lines.proofs.name_stood.Statement.{statement}
+use Rattle.lines.proofs.name_stood.Tie as tie
 
 abbrev Inv-loop : tie.InvT-loop
 Inv-loop text name starts ends count j₀ j = standsIn name (namesOf text starts ends count) ≡ standsIn name (namesOf text starts ends j)
