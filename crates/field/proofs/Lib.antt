@@ -1,4 +1,5 @@
 pub mod Numbers
 pub mod Each
-pub mod Words
+pub mod Names
+pub mod Declass
 pub mod Answers

@@ -9,9 +9,10 @@ use lib.ListN.{length, set, replicate, length-set}
 use Rattle.plan.specs.declared.Template.{Template}
 use Rattle.plan.specs.Plan.{blank}
 use Rattle.text.specs.Reading.{Cursor, Step, Entry, entry, entries}
-use Rattle.text.specs.Cursors.{part, cursorOf, stepOf, namesOf}
+use Rattle.text.specs.Cursors.{part, cursorOf, stepOf}
 use Rattle.text.specs.declared.Position.{Position}
-use Rattle.text.proofs.Names.{names-more}
+use Rattle.lines.specs.Names.{namesOf}
+use Rattle.lines.proofs.Names.{names-more}
 use Rattle.reader.proofs.Rows.{longer, seam}
 use Rattle.reader.specs.Rows.{filled}
 

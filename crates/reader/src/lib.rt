@@ -15,7 +15,8 @@ ghost use mathlib.Core.List.{[]};
 ghost use lib.ListN.{length, replicate};
 ghost use Rattle.plan.specs.Plan.{blank, blankAssertion, masks};
 ghost use Rattle.text.specs.Reading.{on, longest, entry, plan as planText, assertion, policy as policyText, closed, readPlan, readPolicy, noPlan, noPolicy};
-ghost use Rattle.text.specs.Cursors.{cursorOf, stepOf, namesOf};
+ghost use Rattle.text.specs.Cursors.{cursorOf, stepOf};
+ghost use Rattle.lines.specs.Names.{namesOf};
 ghost use Rattle.reader.specs.Rows.{maskKeys, maskLines, entryOf, filled, listed};
 
 // The number of the refusal of a text that is too long.
@@ -71,14 +72,14 @@ fn read_entry(
 ) -> EntryRead
     ensures { λ r. ⌜ stepOf (now (text .entry)) (entryOf (now (text .entry)) r) (r .next) ≡ entry n m (namesOf (now (text .entry)) (now (starts .entry)) (now (ends .entry)) count) (cursorOf (now (text .entry)) from) ⌝ }
 {
-    let name = text::name_line(text, from, starts, ends, count);
+    let name = lines::name_line(text, from, starts, ends, count);
     let after_name = name.next;
-    let form = text::form_line(text, after_name, n);
+    let form = lines::form_line(text, after_name, n);
     let after_form = form.next;
     let f = form.value;
     let masked = read_masks(text, after_form, f, m);
     let after_masks = masked.next;
-    let risk = text::risk_line(text, after_masks);
+    let risk = lines::risk_line(text, after_masks);
     let next = risk.next;
     let mut template = masked.template;
     template.risk = risk.value;
@@ -226,7 +227,7 @@ pub struct AssertionRead {
 fn read_assertion(text: &[u8], from: Position, n: u8) -> AssertionRead
     ensures { λ r. ⌜ stepOf (now (text .entry)) (r .assertion) (r .next) ≡ assertion n (cursorOf (now (text .entry)) from) ⌝ }
 {
-    let kind = text::kind_line(text, from);
+    let kind = lines::kind_line(text, from);
     let after_kind = kind.next;
     let source = text::number_line(text, after_kind, b"source=", field::RANGE, 0, n);
     let after_source = source.next;

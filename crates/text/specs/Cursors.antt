@@ -1,10 +1,10 @@
--- What the positions, lines and names of the code of crate text stand for, on the text that it is lent.
+-- What the positions and lines of the code of crate text stand for, on the text that it is lent.
 -- Not to be believed: the contracts of read_plan and read_policy do not name them.
-use Prim.Native.Nat.{ℕ, zero, suc, _+_, _-_, _≤_, _<_}
+use Prim.Native.Nat.{ℕ, _+_, _-_, _≤_, _<_}
 use mathlib.Core.Bool.{Bool, cond, _&&_}
-use mathlib.Core.List.{List, [], _∷_}
+use mathlib.Core.List.{List}
 use lib.Dec.{leb, ltb}
-use lib.ListN.{length, getD, take, drop}
+use lib.ListN.{length, take, drop}
 use Rattle.scan.specs.Bytes.{before, startsWith}
 use Rattle.field.specs.Fields.{Field, is, bad}
 use Rattle.text.specs.Reading.{longest, Cursor, on, stopped, Step, Reader}
@@ -14,8 +14,6 @@ use Rattle.text.specs.declared.Span.{Span}
 use Rattle.text.specs.declared.Span.the-variants.{At, Missing}
 use Rattle.text.specs.declared.Line.{Line}
 use Rattle.text.specs.declared.Line.the-variants.{Open, Closed}
-use Rattle.text.specs.declared.NameField.{NameField}
-use Rattle.text.specs.declared.NameField.the-variants.{Fresh, Bad}
 
 -- The bytes from a to e, as the code lends them.
 abbrev pub part : ℕ → ℕ → List ℕ → List ℕ
@@ -77,15 +75,3 @@ openedOf text (Closed next) = gone (cursorOf text next)
 unfoldable pub Within : List ℕ → Line → Type 0
 Within text (Open a e k) = (a ≤ e) × (e < length text) × (k ≤ e + 1) × (length text ≤ longest)
 Within text (Closed next) = Unit
-
--- ---- names that stood
-
--- The names at the first places of the two rows, the last first.
-unfoldable pub namesOf : List ℕ → List ℕ → List ℕ → ℕ → List (List ℕ)
-namesOf text starts ends zero = []
-namesOf text starts ends (suc n) = part (getD starts n 0) (getD ends n 0) text ∷ namesOf text starts ends n
-
--- A name that did not stand, or the number of the refusal.
-abbrev pub nameOf : List ℕ → NameField → Field (List ℕ)
-nameOf s Fresh = is s
-nameOf s (Bad n) = bad n

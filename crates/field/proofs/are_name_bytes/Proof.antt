@@ -5,7 +5,7 @@ use lib.ListN.{length, drop}
 use borrow.Author.Needs.{needs}
 use Rattle.lists.specs.Numbers.{all}
 use Rattle.field.specs.Fields.{nameByte}
-use Rattle.field.proofs.Words.{names-done, names-other, names-on}
+use Rattle.field.proofs.Names.{names-done, names-other, names-on}
 use Rattle.field.proofs.are_name_bytes.Statement.{statement}
 use Rattle.field.proofs.are_name_bytes.Tie as tie
 

@@ -1,5 +1,5 @@
 -- By the kind.
-use Rattle.field.proofs.Words.{misplaced-secrecy, misplaced-prot}
+use Rattle.field.proofs.Declass.{misplaced-secrecy, misplaced-prot}
 use Rattle.field.proofs.is_misplaced.Statement.{statement}
 use Rattle.field.proofs.is_misplaced.Tie as tie
 

@@ -1,5 +1,5 @@
 -- The length first, then the bytes.
-use Rattle.field.proofs.Words.{name-none, name-long, name-bytes}
+use Rattle.field.proofs.Names.{name-none, name-long, name-bytes}
 use Rattle.field.proofs.is_name.Statement.{statement}
 use Rattle.field.proofs.is_name.Tie as tie
 

@@ -1,5 +1,5 @@
 -- The mask first, then what its kind forbids.
-use Rattle.field.proofs.Words.{declass-bad, declass-misplaced, declass-is}
+use Rattle.field.proofs.Declass.{declass-bad, declass-misplaced, declass-is}
 use borrow.Author.Needs.{needs}
 use Rattle.field.proofs.read_declass.Statement.{statement}
 use Rattle.field.proofs.read_declass.Tie as tie

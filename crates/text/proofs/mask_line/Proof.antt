@@ -1,6 +1,5 @@
 -- The line is opened, then its field read.
-use Rattle.field.proofs.Answers.{answers}
-use Rattle.field.proofs.Words.{mask-fits}
+use Rattle.field.proofs.Answers.{answers, mask-fits}
 use Rattle.text.proofs.Lines.{ways, places}
 use Rattle.text.proofs.mask_line.Statement.{statement}
 use Rattle.text.proofs.mask_line.Tie as tie

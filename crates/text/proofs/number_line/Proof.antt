@@ -1,6 +1,5 @@
 -- The line is opened, then its number read.
-use Rattle.field.proofs.Words.{number-fits}
-use Rattle.field.proofs.Answers.{answers, number-last}
+use Rattle.field.proofs.Answers.{answers, number-fits, number-last}
 use Rattle.text.proofs.Lines.{ways, places}
 use borrow.Author.Needs.{needs}
 use Rattle.text.proofs.number_line.Statement.{statement}
