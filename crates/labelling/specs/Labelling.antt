@@ -1,5 +1,5 @@
 -- A move as a call, and refusals 27 to 29 in the order of document 01, by what the plan says: the machine's `moveAnswer`.
--- Not to be believed: laws tie it to the machine, and the contract of `monitor::run_call` names the machine alone.
+-- Not to be believed: laws tie it to the machine, and the contract of `dispatch::run_call` names the machine alone.
 use Prim.Native.Nat.{ℕ}
 use mathlib.Core.Bool.{Bool, true, false, not}
 use lib.Dec.{ltb}

@@ -1,5 +1,5 @@
 -- A whole list of calls: the machine that it leaves and the answers that it gives, and how `replay` is handed them.
--- Believed: everything here. Proved against it: crate playback.
+-- Believed: everything here. Proved against it: crates playback and replaying.
 use Prim.Native.Nat.{ℕ, _+_, _*_}
 use mathlib.Core.List.{List, [], _∷_}
 use lib.ListN.{getD}
