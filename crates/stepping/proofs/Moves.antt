@@ -19,10 +19,10 @@ use Rattle.machine.specs.State.{Cells, wordsFrom, placed, processesOf}
 use Rattle.machine.proofs.Words.{process-same, placed-same}
 use Rattle.lists.specs.Writes.{written}
 use Rattle.lists.proofs.Written.{written-in, written-below}
-use Rattle.arrays.specs.Places.{shifted, childTag}
+use Rattle.blocks.specs.Blocks.{shifted, childTag}
 use Rattle.population.specs.Arrays.{cells}
-use Rattle.arrays.proofs.Rows.{row-room, row-under, row-over}
-use Rattle.arrays.proofs.Loops.{shifts-all, shifted-in, shifted-below}
+use Rattle.blocks.proofs.Rows.{row-room, row-under, row-over}
+use Rattle.blocks.proofs.Shifts.{shifts-all, shifted-in, shifted-below}
 use Rattle.machine.specs.declared.Answer.the-variants.{Done}
 use Rattle.population.specs.declared.Settled.{Settled}
 use Rattle.population.specs.Lent.{settles}

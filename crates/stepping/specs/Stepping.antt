@@ -15,7 +15,7 @@ use Rattle.plan.specs.declared.Successors.{Successors}
 use Rattle.machine.specs.declared.Answer.the-variants.{Done}
 use Rattle.machine.specs.Machine.{Process, boxLimits, wellFormed, stepBy}
 use Rattle.machine.specs.State.{Cells, placed, processesOf, machineFrom, unlessDone}
-use Rattle.arrays.specs.Places.{childTag}
+use Rattle.blocks.specs.Blocks.{childTag}
 use Rattle.population.specs.declared.Settled.{Settled}
 use Rattle.population.specs.Lent.{outcomeFrom, Same}
 

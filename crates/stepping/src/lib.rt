@@ -32,12 +32,12 @@ fn leave<'a>(
         let d = cells (now (serials .exit)) (now (templates .exit)) (now (labels .exit)) (now (tags .exit)) in
         ⌜ processesOf m last d ≡ tabulate last (skipping k (placed m c)) ⌝ }
 {
-    arrays::shift(serials, k, last, 1);
-    arrays::shift(templates, k, last, 1);
-    arrays::shift(labels, k, last, 1);
-    let from = arrays::row_start(k as u32, m);
-    let to = arrays::row_start(last as u32, m);
-    arrays::shift(tags, from, to, m as usize);
+    blocks::shift(serials, k, last, 1);
+    blocks::shift(templates, k, last, 1);
+    blocks::shift(labels, k, last, 1);
+    let from = blocks::row_start(k as u32, m);
+    let to = blocks::row_start(last as u32, m);
+    blocks::shift(tags, from, to, m as usize);
 }
 
 // A child at template y comes to the place after the others; row holds its parent's tags.
@@ -63,8 +63,8 @@ fn enter<'a>(
     arrays::put(serials, at, serial);
     arrays::put(templates, at, y);
     arrays::put(labels, at, lab);
-    let from = arrays::row_start(at as u32, m);
-    arrays::write_row(tags, from, row, creates, serial);
+    let from = blocks::row_start(at as u32, m);
+    blocks::write_row(tags, from, row, creates, serial);
 }
 
 // The process at place k goes, and its one child comes.
@@ -86,8 +86,8 @@ fn replace<'a>(
         let d = cells (now (serials .exit)) (now (templates .exit)) (now (labels .exit)) (now (tags .exit)) in
         ⌜ processesOf m (last + 1) d ≡ tabulate last (skipping k (placed m c)) ++ (newborn m (placed m c k .tags) serial y (t .lab) (t .creates) ∷ []) ⌝ }
 {
-    let from = arrays::row_start(k as u32, m);
-    let row = arrays::copy_row(tags, from);
+    let from = blocks::row_start(k as u32, m);
+    let row = blocks::copy_row(tags, from);
     leave(m, k, last, serials, templates, labels, tags);
     enter(
         m,
@@ -125,8 +125,8 @@ fn fork<'a>(
         let d = cells (now (serials .exit)) (now (templates .exit)) (now (labels .exit)) (now (tags .exit)) in
         ⌜ processesOf m (last + 1 + 1) d ≡ (tabulate last (skipping k (placed m c)) ++ (newborn m (placed m c k .tags) serial y (t .lab) (t .creates) ∷ [])) ++ (newborn m (placed m c k .tags) (serial + 1) z (u .lab) (u .creates) ∷ []) ⌝ }
 {
-    let from = arrays::row_start(k as u32, m);
-    let row = arrays::copy_row(tags, from);
+    let from = blocks::row_start(k as u32, m);
+    let row = blocks::copy_row(tags, from);
     replace(m, k, last, serial, y, t, serials, templates, labels, tags);
     enter(
         m,

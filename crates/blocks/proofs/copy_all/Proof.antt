@@ -6,8 +6,8 @@ use native.Mathlib.Omega.{arith}
 use lib.ListN.{getD, length, length-set}
 use Rattle.lists.specs.Writes.{written}
 use Rattle.lists.proofs.Written.{written-none, written-more}
-use Rattle.arrays.proofs.copy_all.Statement.{statement}
-use Rattle.arrays.proofs.copy_all.Tie as tie
+use Rattle.blocks.proofs.copy_all.Statement.{statement}
+use Rattle.blocks.proofs.copy_all.Tie as tie
 
 abbrev Inv-loop : tie.InvT-loop
 Inv-loop words from into₀ at n i₀ into i = (i ≤ n) × (length into ≡ length into₀) × ((j : ℕ) → getD into j 0 ≡ written into₀ at i (λ k. getD words (from + k) 0) j)

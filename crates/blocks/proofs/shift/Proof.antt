@@ -1,8 +1,8 @@
 -- The loop runs as far as something stands further on.
 use borrow.Author.Needs.{needs}
-use Rattle.arrays.proofs.Loops.{slides-all}
-use Rattle.arrays.proofs.shift.Statement.{statement}
-use Rattle.arrays.proofs.shift.Tie as tie
+use Rattle.blocks.proofs.Shifts.{slides-all}
+use Rattle.blocks.proofs.shift.Statement.{statement}
+use Rattle.blocks.proofs.shift.Tie as tie
 
 left-requires : tie.Need-left-requires
 left-requires c κs = search needs

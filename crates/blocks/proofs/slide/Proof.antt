@@ -4,10 +4,10 @@ use mathlib.Core.Path.{_≡_, refl}
 use native.Mathlib.Omega.{arith}
 use lib.ListN.{getD, length, length-set}
 use borrow.Author.Needs.{needs}
-use Rattle.arrays.specs.Places.{shifted}
-use Rattle.arrays.proofs.Loops.{shifted-none, shifted-more}
-use Rattle.arrays.proofs.slide.Statement.{statement}
-use Rattle.arrays.proofs.slide.Tie as tie
+use Rattle.blocks.specs.Blocks.{shifted}
+use Rattle.blocks.proofs.Shifts.{shifted-none, shifted-more}
+use Rattle.blocks.proofs.slide.Statement.{statement}
+use Rattle.blocks.proofs.slide.Tie as tie
 
 abbrev Inv-loop : tie.InvT-loop
 Inv-loop xs₀ from to by i₀ xs i = (from ≤ i) × (i ≤ to) × (length xs ≡ length xs₀) × ((j : ℕ) → getD xs j 0 ≡ shifted xs₀ from i by j)

@@ -1,8 +1,8 @@
 -- All is copied where both ranges are there, and otherwise nothing.
 use borrow.Author.Needs.{needs}
-use Rattle.arrays.proofs.Ranges.{copies-all, copies-none, reads-there, writes-there}
-use Rattle.arrays.proofs.copy_words.Statement.{statement}
-use Rattle.arrays.proofs.copy_words.Tie as tie
+use Rattle.blocks.proofs.Copies.{copies-all, copies-none, reads-there, writes-there}
+use Rattle.blocks.proofs.copy_words.Statement.{statement}
+use Rattle.blocks.proofs.copy_words.Tie as tie
 
 is-within-requires : tie.Need-is-within-requires
 is-within-requires c κs = search needs

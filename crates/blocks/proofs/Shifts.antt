@@ -10,7 +10,7 @@ use lib.Seq.{getD-set-same, getD-set-other}
 use lib.Dec.{leb}
 use borrow.Author.Tests.{lt-ltb, le-ltb, le-leb, lt-leb}
 use Rattle.lists.proofs.Tests.{lt-or-le}
-use Rattle.arrays.specs.Places.{shifted}
+use Rattle.blocks.specs.Blocks.{shifted}
 
 module _ (xs : List ℕ) (from to by : ℕ) where
   pub shifted-in : (j : ℕ) → from ≤ j → j < to → shifted xs from to by j ≡ getD xs (j + by) 0
