@@ -1,16 +1,20 @@
 -- What the changes of the arrays mean for the list of processes: one goes, and its children come.
 use Prim.Native.Nat.{ℕ, _+_, _-_, _*_, _≤_, _<_, min}
 use mathlib.Core.Path.{_≡_, refl, sym, ap, ap₂, _∙_, subst}
+use mathlib.Core.Bool.{true, false, _||_}
 use mathlib.Core.Logic.{⊎-elim}
 use mathlib.Core.List.{List, [], _∷_, _++_, append-assoc, append-nil}
 use native.Mathlib.Nat.{suc-mul}
 use native.Mathlib.Numerals.{add-one}
 use native.Mathlib.Omega.{arith}
+use mir.Val.{Fits}
+use mir.Syntax.{w32}
 use lib.ListN.{length, getD, set}
 use lib.Seq.{getD-set-same, getD-set-other}
-use borrow.Author.Tests.{lt-ltb, le-ltb}
+use lib.Dec.{leb}
+use borrow.Author.Tests.{lt-ltb, le-ltb, leb-true, leb-false}
 use Rattle.lists.specs.Numbers.{tabulate}
-use Rattle.lists.proofs.Tests.{lt-or-le}
+use Rattle.lists.proofs.Tests.{lt-or-le, or-cases, or-none}
 use Rattle.lists.proofs.Tabulate.{getD-tabulate, tabulate-ext, tabulate-snoc}
 use Rattle.plan.specs.declared.Template.{Template}
 use Rattle.plan.specs.declared.Successors.{Successors}
@@ -23,10 +27,7 @@ use Rattle.blocks.specs.Blocks.{shifted, childTag}
 use Rattle.population.specs.Arrays.{cells}
 use Rattle.blocks.proofs.Rows.{row-room, row-under, row-over}
 use Rattle.blocks.proofs.Shifts.{shifts-all, shifted-in, shifted-below}
-use Rattle.machine.specs.declared.Answer.the-variants.{Done}
-use Rattle.population.specs.declared.Settled.{Settled}
-use Rattle.population.specs.Lent.{settles}
-use Rattle.stepping.specs.Stepping.{skipping, newborn, newborns, Room, Advanced}
+use Rattle.stepping.specs.Spawning.{skipping, newborn, newborns, Room, Advanced}
 
 pub skipping-below : (k : ℕ) (f : ℕ → Process) (i : ℕ) → i < k → skipping k f i ≡ f i
 unfolding skipping
@@ -153,69 +154,78 @@ come M k from serial Y lab creates row xs ts ls gs d e n ps h few ef er ed ee =
 
 -- ---- by the number of children
 
-module _ (M next live : ℕ) (c : Cells) (k : ℕ) (heirs : Successors) (t u : Template) (r : Settled) (d : Cells) where
+-- gs are the tags before anything moved, row the parent's; the process has left d behind.
+module _ (M next k last from : ℕ) (row xs ts ls gs : List ℕ) (heirs : Successors) (t u : Template) (d : Cells)
+    (ef : from ≡ k * M) (er : row ≡ tabulate 32 (λ i. getD gs (min from 4064 + i) 0))
+    (gone : k ≤ last → last < 128 → M ≤ 32 → processesOf M last d ≡ tabulate last (skipping k (placed M (cells xs ts ls gs)))) where
   abbrev others : List Process
-  others = tabulate (live - 1) (skipping k (placed M c))
+  others = tabulate last (skipping k (placed M (cells xs ts ls gs)))
 
   abbrev tags : List ℕ
-  tags = placed M c k .tags
+  tags = placed M (cells xs ts ls gs) k .tags
 
-  advanced : (n : ℕ) (ps : List Process) (live′ : ℕ) → heirs .count ≡ n → r ≡ settles Done (next + n) live′ → processesOf M live′ d ≡ others ++ ps
-      → newborns M tags next n (heirs .first) t (heirs .second) u ≡ ps → Advanced M next live c k heirs t u r d
-  advanced n ps live′ en er ed ep = record {
-    done = ap (λ (r : Settled). r .answer) er;
-    serials = ap (λ (r : Settled). r .next) er ∙ ap (λ (n : ℕ). next + n) (sym en);
-    processes =
-        ap (λ (r : Settled). processesOf M (r .live) d) er ∙ ed
-        ∙ ap (λ (ps : List Process). others ++ ps) (sym (ap (λ (n : ℕ). newborns M tags next n (heirs .first) t (heirs .second) u) en ∙ ep));
-  }
+  abbrev Left : Cells → Type 0
+  Left e = Room M next k last (heirs .count) → Advanced M next k last (cells xs ts ls gs) heirs t u e
 
-  -- last is the place of the last process, as the code has it.
-  module _ (last : ℕ) (el : last ≡ live - 1) where
-    pub advanced-none : heirs .count ≡ 0 → processesOf M last d ≡ tabulate last (skipping k (placed M c)) → r ≡ settles Done next (live - 1)
-        → Advanced M next live c k heirs t u r d
+  advanced : (n : ℕ) (ps : List Process) (e : Cells) → heirs .count ≡ n → processesOf M (last + n) e ≡ others ++ ps
+      → newborns M tags next n (heirs .first) t (heirs .second) u ≡ ps → Advanced M next k last (cells xs ts ls gs) heirs t u e
+  advanced n ps e en ee ep =
+      ap (λ (n : ℕ). processesOf M (last + n) e) en ∙ ee
+      ∙ ap (λ (ps : List Process). others ++ ps) (sym (ap (λ (n : ℕ). newborns M tags next n (heirs .first) t (heirs .second) u) en ∙ ep))
+
+  pub advanced-none : heirs .count ≡ 0 → Left d
+  unfolding newborns
+  advanced-none en room =
+      advanced 0 [] d en
+      (ap (λ (n : ℕ). processesOf M n d) (omega arith) ∙ gone (room .place) (room .processes) (room .identifiers) ∙ sym (append-nil others)) refl
+
+  -- The first child comes, and leaves e behind.
+  module _ (e : Cells) (born : last < 128 → M ≤ 32 → processesOf M (last + 1) e ≡ processesOf M last d ++ (newborn M row next (heirs .first) (t .lab) (t .creates) ∷ []))
+      (n0 : heirs .count ≡ 0 → ⊥) where
+    abbrev one : Process
+    one = newborn M tags next (heirs .first) (t .lab) (t .creates)
+
+    first-come : Room M next k last (heirs .count) → processesOf M (last + 1) e ≡ others ++ (one ∷ [])
+    first-come room =
+        come M k from next (heirs .first) (t .lab) (t .creates) row xs ts ls gs d e last others
+        (let h = room .place in let l = room .processes in omega arith) (room .identifiers) ef er
+        (gone (room .place) (room .processes) (room .identifiers)) (born (room .processes) (room .identifiers))
+
+    pub advanced-one : heirs .count ≡ 1 → Left e
     unfolding newborns
-    advanced-none en e er =
-        advanced 0 [] (live - 1) en (er ∙ ap (λ (n : ℕ). settles Done n (live - 1)) (omega arith))
-        (subst (λ (l : ℕ). processesOf M l d ≡ tabulate l (skipping k (placed M c))) el e ∙ sym (append-nil others)) refl
+    advanced-one en room = advanced 1 (one ∷ []) e en (first-come room) refl
 
-    pub advanced-one : heirs .count ≡ 1 → k < live
-        → processesOf M (last + 1) d ≡ tabulate last (skipping k (placed M c)) ++ (newborn M (placed M c k .tags) next (heirs .first) (t .lab) (t .creates) ∷ [])
-        → r ≡ settles Done (next + 1) live → Advanced M next live c k heirs t u r d
+    -- Where there is room for two, both sums are in range.
+    pub advanced-full : (heirs .count ≡ 1 → ⊥) → (leb 127 last || leb 4294967295 next) ≡ true → Left e
+    advanced-full n1 full room =
+        let few = room .children in
+        let places = room .places in
+        let serials = room .serials in
+        absurd (⊎-elim (λ h. let l = leb-true 127 last h in omega arith) (λ h. let l = leb-true 4294967295 next h in omega arith)
+        (or-cases (leb 127 last) (leb 4294967295 next) full))
+
+    pub advanced-two : (heirs .count ≡ 1 → ⊥) → (f : Cells)
+        → (last + 1 < 128 → M ≤ 32 → processesOf M (last + 1 + 1) f ≡ processesOf M (last + 1) e ++ (newborn M row (next + 1) (heirs .second) (u .lab) (u .creates) ∷ []))
+        → Left f
     unfolding newborns
-    advanced-one en h e er =
-        advanced 1 born live en er
-        (ap (λ (n : ℕ). processesOf M n d) (omega (arith, el)) ∙ e ∙ ap (λ (l : ℕ). tabulate l (skipping k (placed M c)) ++ born) el) refl
+    advanced-two n1 f next-born room =
+        advanced 2 (one ∷ two ∷ []) f en
+        (ap (λ (n : ℕ). processesOf M n f) (omega arith)
+        ∙ come M k from (next + 1) (heirs .second) (u .lab) (u .creates) row xs ts ls gs e f (last + 1) (others ++ (one ∷ []))
+        (let h = room .place in let l = room .processes in omega arith) (room .identifiers) ef er
+        (first-come room) (next-born (let p = room .places in omega (arith, en)) (room .identifiers))
+        ∙ append-assoc others (one ∷ []) (two ∷ [])) refl
       where
-        born : List Process
-        born = newborn M tags next (heirs .first) (t .lab) (t .creates) ∷ []
-
-    pub advanced-two : heirs .count ≤ 2 → (heirs .count ≡ 0 → ⊥) → (heirs .count ≡ 1 → ⊥) → k < live
-        → processesOf M (last + 1 + 1) d
-        ≡ (tabulate last (skipping k (placed M c)) ++ (newborn M (placed M c k .tags) next (heirs .first) (t .lab) (t .creates) ∷ [])) ++ (newborn M (placed M c k .tags) (next + 1) (heirs .second) (u .lab) (u .creates) ∷ [])
-        → r ≡ settles Done (next + 2) (live + 1) → Advanced M next live c k heirs t u r d
-    unfolding newborns
-    advanced-two few n0 n1 h e er =
-        advanced 2 (one ∷ two ∷ []) (live + 1) (omega arith) er
-        (ap (λ (n : ℕ). processesOf M n d) (omega (arith, el)) ∙ e ∙ append-assoc (tabulate last (skipping k (placed M c))) (one ∷ []) (two ∷ [])
-        ∙ ap (λ (l : ℕ). tabulate l (skipping k (placed M c)) ++ (one ∷ two ∷ [])) el) refl
-      where
-        one : Process
-        one = newborn M tags next (heirs .first) (t .lab) (t .creates)
-
         two : Process
         two = newborn M tags (next + 1) (heirs .second) (u .lab) (u .creates)
 
--- ---- room
+        en : heirs .count ≡ 2
+        en = let few = room .children in omega arith
 
-pub fork-room : (M next live k count last : ℕ) → Room M next live k count → (count ≡ 0 → ⊥) → (count ≡ 1 → ⊥) → last ≡ live - 1
-    → (k ≤ last) × (last + 1 < 128) × (M ≤ 32) × (next + 1 < 4294967296)
-fork-room M next live k count last room n0 n1 el =
-    let few = room .children in
-    let two : count ≡ 2 = omega arith in
-    let spare = room .spare two in
-    let here = room .place in
-    (omega (arith, el, here), omega (arith, el, here, spare), room .identifiers, omega arith)
+-- ---- the second child's place and serial fit
 
-pub fork-serials : (M next live k count : ℕ) → Room M next live k count → (count ≡ 0 → ⊥) → (count ≡ 1 → ⊥) → next + 2 < 4294967296
-fork-serials M next live k count room n0 n1 = let few = room .children in omega arith
+pub place-fits : (last next : ℕ) → (leb 127 last || leb 4294967295 next) ≡ false → Fits w32 (last + 1)
+place-fits last next e = let l = leb-false 127 last (or-none (leb 127 last) (leb 4294967295 next) e .0) in omega arith
+
+pub serial-fits : (last next : ℕ) → (leb 127 last || leb 4294967295 next) ≡ false → Fits w32 (next + 1)
+serial-fits last next e = let l = leb-false 4294967295 next (or-none (leb 127 last) (leb 4294967295 next) e .1) in omega arith

@@ -1,1 +1,2 @@
+pub mod Spawning
 pub mod Stepping

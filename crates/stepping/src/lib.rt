@@ -14,36 +14,38 @@ ghost use Rattle.machine.specs.Machine.{step};
 ghost use Rattle.machine.specs.State.{placed, processesOf};
 ghost use Rattle.population.specs.Arrays.{cells};
 ghost use Rattle.population.specs.Lent.{Tried};
-ghost use Rattle.stepping.specs.Stepping.{skipping, newborn, Room, Advanced, SteppedAt};
+ghost use Rattle.stepping.specs.Spawning.{skipping, newborn, Room, Advanced};
+ghost use Rattle.stepping.specs.Stepping.{SteppedAt};
 
-// The process at place k goes: those above it move down.
+// The process at place k goes: those above it, up to the last, move down.
 fn leave<'a>(
     m: u32,
-    k: usize,
-    last: usize,
+    k: u32,
+    last: u32,
     serials: &'a mut [u32; 128],
     templates: &'a mut [u32; 128],
     labels: &'a mut [u32; 128],
     tags: &'a mut [u32; 4096],
 )
-    requires { ⌜ (k ≤ last) × (last < 128) × (m ≤ 32) ⌝ }
     ensures { λ _.
         let c = cells (now (serials .entry)) (now (templates .entry)) (now (labels .entry)) (now (tags .entry)) in
         let d = cells (now (serials .exit)) (now (templates .exit)) (now (labels .exit)) (now (tags .exit)) in
-        ⌜ processesOf m last d ≡ tabulate last (skipping k (placed m c)) ⌝ }
+        ⌜ (k ≤ last → last < 128 → m ≤ 32 → processesOf m last d ≡ tabulate last (skipping k (placed m c))) ⌝ }
 {
-    blocks::shift(serials, k, last, 1);
-    blocks::shift(templates, k, last, 1);
-    blocks::shift(labels, k, last, 1);
-    let from = blocks::row_start(k as u32, m);
-    let to = blocks::row_start(last as u32, m);
+    let place = k as usize;
+    let end = last as usize;
+    blocks::shift(serials, place, end, 1);
+    blocks::shift(templates, place, end, 1);
+    blocks::shift(labels, place, end, 1);
+    let from = blocks::row_start(k, m);
+    let to = blocks::row_start(last, m);
     blocks::shift(tags, from, to, m as usize);
 }
 
 // A child at template y comes to the place after the others; row holds its parent's tags.
 fn enter<'a>(
     m: u32,
-    at: usize,
+    at: u32,
     serial: u32,
     y: u32,
     lab: u32,
@@ -54,101 +56,26 @@ fn enter<'a>(
     labels: &'a mut [u32; 128],
     tags: &'a mut [u32; 4096],
 )
-    requires { ⌜ (at < 128) × (m ≤ 32) ⌝ }
     ensures { λ _.
         let c = cells (now (serials .entry)) (now (templates .entry)) (now (labels .entry)) (now (tags .entry)) in
         let d = cells (now (serials .exit)) (now (templates .exit)) (now (labels .exit)) (now (tags .exit)) in
-        ⌜ processesOf m (at + 1) d ≡ processesOf m at c ++ (newborn m row serial y lab creates ∷ []) ⌝ }
+        ⌜ (at < 128 → m ≤ 32 → processesOf m (at + 1) d ≡ processesOf m at c ++ (newborn m row serial y lab creates ∷ [])) ⌝ }
 {
-    arrays::put(serials, at, serial);
-    arrays::put(templates, at, y);
-    arrays::put(labels, at, lab);
-    let from = blocks::row_start(at as u32, m);
+    let place = at as usize;
+    arrays::put(serials, place, serial);
+    arrays::put(templates, place, y);
+    arrays::put(labels, place, lab);
+    let from = blocks::row_start(at, m);
     blocks::write_row(tags, from, row, creates, serial);
 }
 
-// The process at place k goes, and its one child comes.
-fn replace<'a>(
-    m: u32,
-    k: usize,
-    last: usize,
-    serial: u32,
-    y: u32,
-    t: Template,
-    serials: &'a mut [u32; 128],
-    templates: &'a mut [u32; 128],
-    labels: &'a mut [u32; 128],
-    tags: &'a mut [u32; 4096],
-)
-    requires { ⌜ (k ≤ last) × (last < 128) × (m ≤ 32) ⌝ }
-    ensures { λ _.
-        let c = cells (now (serials .entry)) (now (templates .entry)) (now (labels .entry)) (now (tags .entry)) in
-        let d = cells (now (serials .exit)) (now (templates .exit)) (now (labels .exit)) (now (tags .exit)) in
-        ⌜ processesOf m (last + 1) d ≡ tabulate last (skipping k (placed m c)) ++ (newborn m (placed m c k .tags) serial y (t .lab) (t .creates) ∷ []) ⌝ }
-{
-    let from = blocks::row_start(k as u32, m);
-    let row = blocks::copy_row(tags, from);
-    leave(m, k, last, serials, templates, labels, tags);
-    enter(
-        m,
-        last,
-        serial,
-        y,
-        t.lab,
-        t.creates,
-        row,
-        serials,
-        templates,
-        labels,
-        tags,
-    );
-}
-
-// The process at place k goes, and its two children come, the first with the lower serial.
-fn fork<'a>(
-    m: u32,
-    k: usize,
-    last: usize,
-    serial: u32,
-    y: u32,
-    t: Template,
-    z: u32,
-    u: Template,
-    serials: &'a mut [u32; 128],
-    templates: &'a mut [u32; 128],
-    labels: &'a mut [u32; 128],
-    tags: &'a mut [u32; 4096],
-)
-    requires { ⌜ (k ≤ last) × (last + 1 < 128) × (m ≤ 32) × (serial + 1 < 4294967296) ⌝ }
-    ensures { λ _.
-        let c = cells (now (serials .entry)) (now (templates .entry)) (now (labels .entry)) (now (tags .entry)) in
-        let d = cells (now (serials .exit)) (now (templates .exit)) (now (labels .exit)) (now (tags .exit)) in
-        ⌜ processesOf m (last + 1 + 1) d ≡ (tabulate last (skipping k (placed m c)) ++ (newborn m (placed m c k .tags) serial y (t .lab) (t .creates) ∷ [])) ++ (newborn m (placed m c k .tags) (serial + 1) z (u .lab) (u .creates) ∷ []) ⌝ }
-{
-    let from = blocks::row_start(k as u32, m);
-    let row = blocks::copy_row(tags, from);
-    replace(m, k, last, serial, y, t, serials, templates, labels, tags);
-    enter(
-        m,
-        last + 1,
-        serial + 1,
-        z,
-        u.lab,
-        u.creates,
-        row,
-        serials,
-        templates,
-        labels,
-        tags,
-    );
-}
-
-// "Else the process goes": its children are those of the first count of the two templates.
+// "Else the process goes": its children are those of the first count of the two templates, the first with the lower
+// serial. Their parent's tags are copied before it goes.
 fn advance<'a>(
     m: u32,
     next: u32,
-    live: u32,
-    k: usize,
+    k: u32,
+    last: u32,
     heirs: Successors,
     first: Template,
     second: Template,
@@ -156,39 +83,53 @@ fn advance<'a>(
     templates: &'a mut [u32; 128],
     labels: &'a mut [u32; 128],
     tags: &'a mut [u32; 4096],
-) -> Settled
-    requires { ⌜ Room m next live k (heirs .count) ⌝ }
-    ensures { λ r.
+)
+    ensures { λ _.
         let c = cells (now (serials .entry)) (now (templates .entry)) (now (labels .entry)) (now (tags .entry)) in
         let d = cells (now (serials .exit)) (now (templates .exit)) (now (labels .exit)) (now (tags .exit)) in
-        ⌜ Advanced m next live c k heirs first second r d ⌝ }
+        ⌜ (Room m next k last (heirs .count) → Advanced m next k last c heirs first second d) ⌝ }
 {
     let y = heirs.first as u32;
     let z = heirs.second as u32;
-    let last = arrays::index(live - 1);
+    let from = blocks::row_start(k, m);
+    let row = blocks::copy_row(tags, from);
+    leave(m, k, last, serials, templates, labels, tags);
     if heirs.count == 0 {
-        leave(m, k, last, serials, templates, labels, tags);
-        return population::settle(Answer::Done, next, live - 1);
+        return;
     }
-    if heirs.count == 1 {
-        replace(m, k, last, next, y, first, serials, templates, labels, tags);
-        return population::settle(Answer::Done, next + 1, live);
-    }
-    fork(
+    enter(
         m,
-        k,
         last,
         next,
         y,
-        first,
-        z,
-        second,
+        first.lab,
+        first.creates,
+        row,
         serials,
         templates,
         labels,
         tags,
     );
-    population::settle(Answer::Done, next + 2, live + 1)
+    if heirs.count == 1 {
+        return;
+    }
+    // For safety alone: where there is room for two children, both sums are in range.
+    if (127 <= last) | (4294967295 <= next) {
+        return;
+    }
+    enter(
+        m,
+        last + 1,
+        next + 1,
+        z,
+        second.lab,
+        second.creates,
+        row,
+        serials,
+        templates,
+        labels,
+        tags,
+    );
 }
 
 // The step of the process at place k. A row of more than 32 identifiers means a bad state, whose tags have no places.
@@ -233,11 +174,13 @@ fn step_at<'a>(
     if number != 0 {
         return population::settle(Answer::Refused(number), next, live);
     }
+    let count = heirs.count as u32;
+    let last = live - 1;
     advance(
         m,
         next,
-        live,
-        k,
+        k as u32,
+        last,
         heirs,
         first,
         second,
@@ -245,7 +188,8 @@ fn step_at<'a>(
         templates,
         labels,
         tags,
-    )
+    );
+    population::settle(Answer::Done, next + count, last + count)
 }
 
 // Document 01, Step: 21, then 22 to 25 for the process found.

@@ -1,6 +1,6 @@
--- No child, one or two: each by its law.
+-- The parent's tags are copied before it goes; then no child, one or two, each by its law.
 use borrow.Author.Needs.{needs}
-use Rattle.stepping.proofs.Moves.{advanced-none, advanced-one, advanced-two, fork-room, fork-serials}
+use Rattle.stepping.proofs.Moves.{advanced-none, advanced-one, advanced-full, advanced-two, place-fits, serial-fits}
 use Rattle.stepping.proofs.advance.Statement.{statement}
 use Rattle.stepping.proofs.advance.Tie as tie
 
@@ -10,54 +10,69 @@ cast-y c = search needs
 cast-z : tie.Need-cast-z
 cast-z c = search needs
 
-sub-index : tie.Need-sub-index
-sub-index c = search needs
+row-start-requires : tie.Need-row-start-requires
+row-start-requires c κs = search needs
 
-index-requires : tie.Need-index-requires
-index-requires c κs = search needs
+copy-row-requires : tie.Need-copy-row-requires
+copy-row-requires c κs = search needs
 
 leave-requires : tie.Need-leave-requires
 leave-requires c κs = search needs
 
-sub-settle : tie.Need-sub-settle
-sub-settle c = search needs
-
-settle-requires : tie.Need-settle-requires
-settle-requires c κs = search needs
-
 returns : tie.Need-returns
-returns c = search advanced-none
+returns c =
+    let gone = c .before .before in
+    let copied = gone .before .before .before .before .before in
+    let start = copied .before .before in
+    let b = start .before .before .before in
+    advanced-none _ _ _ _ _ _ (b .args .serials .now) (b .args .templates .now) (b .args .labels .now) (b .args .tags .now) _ _ _ _ (start .row-start .ensures) (copied .copy-row .ensures) (gone .leave .ensures) (c .if1 .taken)
 
-replace-requires : tie.Need-replace-requires
-replace-requires c κs = search needs
-
-add-settle : tie.Need-add-settle
-add-settle c = search needs
-
-settle-requires-2 : tie.Need-settle-requires-2
-settle-requires-2 c κs = search needs
+enter-requires : tie.Need-enter-requires
+enter-requires c κs = search needs
 
 returns-2 : tie.Need-returns-2
-returns-2 c = search advanced-one
-
-fork-requires : tie.Need-fork-requires
-fork-requires c κs =
-    let tested = c .before .before .before .before in
-    let lone = tested .before .before in
-    let last = lone .before .before in
-    fork-room _ _ _ _ _ _ (last .before .before .before .pre) (lone .if1 .left) (tested .if2 .left) (last .index .ensures)
-
-add-settle-2 : tie.Need-add-settle-2
-add-settle-2 c = search fork-serials
-
-add-settle-3 : tie.Need-add-settle-3
-add-settle-3 c = search needs
-
-settle-requires-3 : tie.Need-settle-requires-3
-settle-requires-3 c κs = search needs
+returns-2 c =
+    let first = c .before .before in
+    let some = first .before .before .before .before .before in
+    let gone = some .before .before in
+    let copied = gone .before .before .before .before .before in
+    let start = copied .before .before in
+    let b = start .before .before .before in
+    advanced-one _ _ _ _ _ _ (b .args .serials .now) (b .args .templates .now) (b .args .labels .now) (b .args .tags .now) _ _ _ _ (start .row-start .ensures) (copied .copy-row .ensures) (gone .leave .ensures) _ (first .enter .ensures) (some .if1 .left) (c .if2 .taken)
 
 returns-3 : tie.Need-returns-3
-returns-3 c = search advanced-two
+returns-3 c =
+    let first = c .before .before .before in
+    let some = first .before .before .before .before .before in
+    let gone = some .before .before in
+    let copied = gone .before .before .before .before .before in
+    let start = copied .before .before in
+    let b = start .before .before .before in
+    advanced-full _ _ _ _ _ _ (b .args .serials .now) (b .args .templates .now) (b .args .labels .now) (b .args .tags .now) _ _ _ _ (start .row-start .ensures) (copied .copy-row .ensures) (gone .leave .ensures) _ (first .enter .ensures) (some .if1 .left) (c .before .if2 .left) (c .if3 .taken)
+
+add-enter : tie.Need-add-enter
+add-enter c =
+    let b = c .before .before .before .before .before .before .before .before .before .before .before .before .before .before .before .before .before .before .before .before in
+    place-fits (b .args .last) (b .args .next) (c .if3 .left)
+
+add-enter-2 : tie.Need-add-enter-2
+add-enter-2 c =
+    let b = c .before .before .before .before .before .before .before .before .before .before .before .before .before .before .before .before .before .before .before .before in
+    serial-fits (b .args .last) (b .args .next) (c .if3 .left)
+
+enter-requires-2 : tie.Need-enter-requires-2
+enter-requires-2 c κs = search needs
+
+returns-4 : tie.Need-returns-4
+returns-4 c =
+    let tested = c .before .before .before .before .before in
+    let first = tested .before .before .before in
+    let some = first .before .before .before .before .before in
+    let gone = some .before .before in
+    let copied = gone .before .before .before .before .before in
+    let start = copied .before .before in
+    let b = start .before .before .before in
+    advanced-two _ _ _ _ _ _ (b .args .serials .now) (b .args .templates .now) (b .args .labels .now) (b .args .tags .now) _ _ _ _ (start .row-start .ensures) (copied .copy-row .ensures) (gone .leave .ensures) _ (first .enter .ensures) (some .if1 .left) (tested .before .if2 .left) _ (c .enter2 .ensures)
 
 pub advance-spec : {M : Type 1} → statement M
 advance-spec =
@@ -65,18 +80,14 @@ advance-spec =
     (tie.spec
     cast-y
     cast-z
-    sub-index
-    index-requires
+    row-start-requires
+    copy-row-requires
     leave-requires
-    sub-settle
-    settle-requires
     returns
-    replace-requires
-    add-settle
-    settle-requires-2
+    enter-requires
     returns-2
-    fork-requires
-    add-settle-2
-    add-settle-3
-    settle-requires-3
-    returns-3)
+    returns-3
+    add-enter
+    add-enter-2
+    enter-requires-2
+    returns-4)

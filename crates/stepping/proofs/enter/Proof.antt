@@ -13,9 +13,6 @@ put-requires-2 c κs = search needs
 put-requires-3 : tie.Need-put-requires-3
 put-requires-3 c κs = search needs
 
-cast-row-start : tie.Need-cast-row-start
-cast-row-start c = search needs
-
 row-start-requires : tie.Need-row-start-requires
 row-start-requires c κs = search needs
 
@@ -28,7 +25,7 @@ returns c =
     let templates = labels .before .before in
     let serials = templates .before .before in
     let b = serials .before .before in
-    entered-processes _ _ _ _ _ _ _ _ (b .args .serials .now) (b .args .templates .now) (b .args .labels .now) _ _ _ _ _ (b .pre .0) (b .pre .1) (search needs) (search needs) (search needs)
+    λ h few. entered-processes _ _ _ _ _ _ _ _ (b .args .serials .now) (b .args .templates .now) (b .args .labels .now) _ _ _ _ _ h few (search needs) (search needs) (search needs)
     (c .before .before .row-start .ensures) (serials .put .ensures) (templates .put2 .ensures) (labels .put3 .ensures) (c .write-row .ensures)
 
 pub enter-spec : {M : Type 1} → statement M
@@ -38,7 +35,6 @@ enter-spec =
     put-requires
     put-requires-2
     put-requires-3
-    cast-row-start
     row-start-requires
     write-row-requires
     returns)

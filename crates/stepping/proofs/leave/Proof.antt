@@ -13,14 +13,8 @@ shift-requires-2 c κs = search needs
 shift-requires-3 : tie.Need-shift-requires-3
 shift-requires-3 c κs = search needs
 
-cast-row-start : tie.Need-cast-row-start
-cast-row-start c = search needs
-
 row-start-requires : tie.Need-row-start-requires
 row-start-requires c κs = search needs
-
-cast-row-start-2 : tie.Need-cast-row-start-2
-cast-row-start-2 c = search needs
 
 row-start-requires-2 : tie.Need-row-start-requires-2
 row-start-requires-2 c κs = search needs
@@ -35,7 +29,7 @@ returns c =
     let templates = labels .before .before in
     let serials = templates .before .before in
     let b = serials .before .before in
-    left-processes _ _ _ _ _ (b .args .serials .now) (b .args .templates .now) (b .args .labels .now) (b .args .tags .now) _ _ _ _ (b .pre .0) (b .pre .1) (b .pre .2)
+    λ h l few. left-processes _ _ _ _ _ (b .args .serials .now) (b .args .templates .now) (b .args .labels .now) (b .args .tags .now) _ _ _ _ h l few
     (search needs) (search needs) (search needs) (c .before .shift-arg4 .given .0 .1) (rows .before .row-start .ensures) (rows .row-start2 .ensures)
     (serials .shift .ensures) (templates .shift2 .ensures) (labels .shift3 .ensures) (c .shift4 .ensures)
 
@@ -46,9 +40,7 @@ leave-spec =
     shift-requires
     shift-requires-2
     shift-requires-3
-    cast-row-start
     row-start-requires
-    cast-row-start-2
     row-start-requires-2
     shift-requires-4
     returns)

@@ -1,7 +1,7 @@
 -- The templates looked up are the plan's, their numbers being below N; then a refusal by its number, or the move.
 use borrow.Author.Needs.{needs}
-use Rattle.stepping.proofs.Room.{room-left}
-use Rattle.stepping.proofs.Steps.{place-wide, place-refused, place-done}
+use Rattle.stepping.proofs.Room.{room-left, next-fits, live-fits}
+use Rattle.stepping.proofs.Steps.{place-wide, place-refused, place-done, some-live, place-word}
 use Rattle.stepping.proofs.step_at.Statement.{statement}
 use Rattle.stepping.proofs.step_at.Tie as tie
 
@@ -63,21 +63,40 @@ returns-2 c =
     place-refused _ _ _ _ _ _ (b .pre .0) _ (counted .identifier-count .ensures) _ (looked .template-at .ensures) _ (heirs .0) (heirs .1) (heirs .2) (heirs .3)
     _ _ (first .template-at2 .ensures) (second .template-at3 .ensures) _ (asked .refusal .ensures) _ (c .before .if2 .taken) (c .settle2 .ensures)
 
+cast-count : tie.Need-cast-count
+cast-count c = search needs
+
+sub-last : tie.Need-sub-last
+sub-last c = some-live _ _ (c .before .before .before .before .before .before .before .before .before .before .before .before .before .pre .0)
+
+cast-advance : tie.Need-cast-advance
+cast-advance c = place-word _ _ (c .before .before .before .before .before .before .before .before .before .before .before .before .before .pre .0) (c .before .before .before .before .before .before .before .before .before .before .before .before .before .pre .1)
+
 advance-requires : tie.Need-advance-requires
-advance-requires c κs =
-    let asked = c .before .before .before .before .before in
-    let second = asked .before .before in
-    let first = second .before .before in
-    let made = first .before .before in
+advance-requires c κs = search needs
+
+add-settle : tie.Need-add-settle
+add-settle c =
+    let asked = c .before .before .before .before .before .before .before in
+    let made = asked .before .before .before .before .before .before in
     let looked = made .before in
-    let counted = looked .before .before .before in
-    let b = counted .before in
-    let heirs = made .children-of .ensures in
-    room-left _ _ _ _ _ _ _ _ _ _ _ (asked .refusal .ensures) (c .before .before .before .before .if2 .left) (looked .before .before .if1 .left) (b .pre .0) (b .pre .1) (heirs .1)
+    let b = looked .before .before .before .before in
+    next-fits _ _ _ _ _ _ _ _ _ _ _ (asked .refusal .ensures) (c .before .before .before .before .before .before .if2 .left) (looked .before .before .if1 .left) (b .pre .0) (b .pre .1) (made .children-of .ensures .1)
+
+add-settle-2 : tie.Need-add-settle-2
+add-settle-2 c =
+    let asked = c .before .before .before .before .before .before .before in
+    let made = asked .before .before .before .before .before .before in
+    let looked = made .before in
+    let b = looked .before .before .before .before in
+    live-fits _ _ _ _ _ _ _ _ _ _ _ (asked .refusal .ensures) (c .before .before .before .before .before .before .if2 .left) (looked .before .before .if1 .left) (b .pre .0) (b .pre .1) (made .children-of .ensures .1)
+
+settle-requires-3 : tie.Need-settle-requires-3
+settle-requires-3 c κs = search needs
 
 returns-3 : tie.Need-returns-3
 returns-3 c =
-    let asked = c .before .before .before .before .before .before in
+    let asked = c .before .before .before .before .before .before .before .before in
     let second = asked .before .before in
     let first = second .before .before in
     let made = first .before .before in
@@ -86,7 +105,9 @@ returns-3 c =
     let b = counted .before in
     let heirs = made .children-of .ensures in
     place-done _ _ _ _ _ _ (b .pre .0) _ (counted .identifier-count .ensures) _ (looked .template-at .ensures) _ (heirs .0) (heirs .1) (heirs .2) (heirs .3)
-    _ _ (first .template-at2 .ensures) (second .template-at3 .ensures) _ (asked .refusal .ensures) _ _ (c .before .before .before .before .before .if2 .left) (c .advance .ensures)
+    _ _ (first .template-at2 .ensures) (second .template-at3 .ensures) _ (asked .refusal .ensures) _ _ (c .before .before .before .before .before .before .before .if2 .left)
+    (room-left _ _ _ _ _ _ _ _ _ _ _ (asked .refusal .ensures) (c .before .before .before .before .before .before .before .if2 .left) (looked .before .before .if1 .left) (b .pre .0) (b .pre .1) (made .children-of .ensures .1))
+    (c .before .advance .ensures) (c .settle3 .ensures)
 
 pub step-at-spec : {M : Type 1} → statement M
 step-at-spec =
@@ -108,5 +129,11 @@ step-at-spec =
     refusal-requires
     settle-requires-2
     returns-2
+    cast-count
+    sub-last
+    cast-advance
     advance-requires
+    add-settle
+    add-settle-2
+    settle-requires-3
     returns-3)
