@@ -13,7 +13,7 @@ use Rattle.plan.specs.declared.Template.{Template}
 use Rattle.population.specs.Lent.{answerFor}
 use Rattle.machine.proofs.Outcomes.{refuse-done}
 use Rattle.admission.specs.Admission.{refusalOf}
-use Rattle.stepping.specs.Spawning.{Room}
+use Rattle.spawning.specs.Spawning.{Room}
 
 module _ (M next live label : ℕ) (X : Template) (branch count : ℕ) (t u : Template) (q k : ℕ)
     (e : answerFor q ≡ refusalOf M next live label X branch count t u) (z : q ≡ 0)

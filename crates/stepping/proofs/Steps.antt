@@ -32,13 +32,13 @@ use Rattle.arrays.specs.Places.{Located}
 use Rattle.blocks.specs.Blocks.{childTag}
 use Rattle.population.specs.declared.Settled.{Settled}
 use Rattle.population.specs.Arrays.{cells}
-use Rattle.population.specs.Lent.{settles, outcomeFrom, Same, unlessStep, Tried, answerFor}
+use Rattle.population.specs.Lent.{settles, outcomeFrom, unlessStep, Tried, answerFor}
 use Rattle.population.proofs.Fits.{length-processes, formed-plan, formed-template, formed-identifiers, formed-few, formed-lookup, looked-at}
 use Rattle.population.proofs.Lent.{numbered, untouched, tried-same, placed-at, found-none, found-some, found-serial, alone}
 use Rattle.admission.specs.Admission.{innocent, fitting, allFitting, refusalOf}
-use Rattle.stepping.specs.Spawning.{skipping, newborn, newborns, Room, Advanced}
+use Rattle.spawning.specs.Spawning.{skipping, newborn, newborns, Room, Advanced}
 use Rattle.stepping.specs.Stepping.{SteppedAt}
-use Rattle.stepping.proofs.Moves.{skipping-below, skipping-above}
+use Rattle.spawning.proofs.Moves.{skipping-below, skipping-above}
 
 -- ---- the list of children and the code's two
 
@@ -120,7 +120,7 @@ module _ (plan : Plan) (next live : ℕ) (c : Cells) (k branch : ℕ) (well : we
     unfolding stepBy machineFrom placed
     step-refused n = sym (settled-refused _ _ _ q (answers ∙ numbered q n))
 
-    step-done : (d : Cells) → q ≡ 0 → Advanced (plan .identifiers) next k (live - 1) c heirs first second d
+    step-done : (d : Cells) → q ≡ 0 → Advanced (plan .identifiers) next k (live - 1) c (heirs .count) (heirs .first) first (heirs .second) second d
         → Stepped (settles Done (next + heirs .count) (live - 1 + heirs .count)) d
     unfolding stepBy stepped machineFrom placed
     step-done d z w =
@@ -199,14 +199,14 @@ module _ (row : List ℕ) (next live : ℕ) (c : Cells) (k branch : ℕ) (h : k 
         })
 
     pub place-done : (r : Settled) (d : Cells) → q ≡ 0 → Room w next k (live - 1) (heirs .count)
-        → (Room w next k (live - 1) (heirs .count) → Advanced w next k (live - 1) c heirs first second d)
+        → (Room w next k (live - 1) (heirs .count) → Advanced w next k (live - 1) c (heirs .count) (heirs .first) first (heirs .second) second d)
         → r ≡ settles Done (next + heirs .count) (live - 1 + heirs .count) → SteppedAt (planFor row) next live c k branch r d
     unfolding unlessDone
     place-done r d z room v er =
         subst (λ (r : Settled). SteppedAt (planFor row) next live c k branch r d) (sym er) (record {
           means = λ well.
               step-done (planFor row) next live c k branch well h t (found well) heirs eh few first second (e₁ well) (e₂ well) q (eq′ well) d z
-              (subst (λ (M : ℕ). Advanced M next k (live - 1) c heirs first second d) (sym (M-is well)) (v room));
+              (subst (λ (M : ℕ). Advanced M next k (live - 1) c (heirs .count) (heirs .first) first (heirs .second) second d) (sym (M-is well)) (v room));
           same = Prim.tt;
         })
 

@@ -1,2 +1,1 @@
-pub mod Spawning
 pub mod Stepping

@@ -1,8 +1,8 @@
--- Each array takes the child's value at the place, the tags its row.
+-- A child that comes: each array takes its value at the place, the tags its row.
 use borrow.Author.Needs.{needs}
-use Rattle.stepping.proofs.Moves.{entered-processes}
-use Rattle.stepping.proofs.enter.Statement.{statement}
-use Rattle.stepping.proofs.enter.Tie as tie
+use Rattle.spawning.proofs.Moves.{entered-came, entered-not}
+use Rattle.spawning.proofs.enter.Statement.{statement}
+use Rattle.spawning.proofs.enter.Tie as tie
 
 put-requires : tie.Need-put-requires
 put-requires c κs = search needs
@@ -24,9 +24,13 @@ returns c =
     let labels = c .before .before .before in
     let templates = labels .before .before in
     let serials = templates .before .before in
-    let b = serials .before .before in
-    λ h few. entered-processes _ _ _ _ _ _ _ _ (b .args .serials .now) (b .args .templates .now) (b .args .labels .now) _ _ _ _ _ h few (search needs) (search needs) (search needs)
+    let tested = serials .before .before in
+    let b = tested .before in
+    entered-came _ _ _ _ _ _ _ _ _ (b .args .serials .now) (b .args .templates .now) (b .args .labels .now) (b .args .tags .now) _ _ _ _ (tested .if1 .taken) (search needs) (search needs) (search needs)
     (c .before .before .row-start .ensures) (serials .put .ensures) (templates .put2 .ensures) (labels .put3 .ensures) (c .write-row .ensures)
+
+returns-2 : tie.Need-returns-2
+returns-2 c = search entered-not
 
 pub enter-spec : {M : Type 1} → statement M
 enter-spec =
@@ -37,4 +41,5 @@ enter-spec =
     put-requires-3
     row-start-requires
     write-row-requires
-    returns)
+    returns
+    returns-2)

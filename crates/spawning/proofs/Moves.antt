@@ -1,23 +1,20 @@
 -- What the changes of the arrays mean for the list of processes: one goes, and its children come.
-use Prim.Native.Nat.{ℕ, _+_, _-_, _*_, _≤_, _<_, min}
+use Prim.Native.Nat.{ℕ, _+_, _-_, _*_, _≤_, _<_, _%_, _^_, min}
 use mathlib.Core.Path.{_≡_, refl, sym, ap, ap₂, _∙_, subst}
-use mathlib.Core.Bool.{true, false, _||_}
+use mathlib.Core.Bool.{Bool, true, false}
 use mathlib.Core.Logic.{⊎-elim}
 use mathlib.Core.List.{List, [], _∷_, _++_, append-assoc, append-nil}
-use native.Mathlib.Nat.{suc-mul}
+use native.Mathlib.Nat.{suc-mul, mod-eq-of-lt}
 use native.Mathlib.Numerals.{add-one}
 use native.Mathlib.Omega.{arith}
-use mir.Val.{Fits}
-use mir.Syntax.{w32}
 use lib.ListN.{length, getD, set}
 use lib.Seq.{getD-set-same, getD-set-other}
 use lib.Dec.{leb}
-use borrow.Author.Tests.{lt-ltb, le-ltb, leb-true, leb-false}
+use borrow.Author.Tests.{lt-ltb, le-ltb, le-leb, lt-leb}
 use Rattle.lists.specs.Numbers.{tabulate}
-use Rattle.lists.proofs.Tests.{lt-or-le, or-cases, or-none}
+use Rattle.lists.proofs.Tests.{lt-or-le, passes-fails}
 use Rattle.lists.proofs.Tabulate.{getD-tabulate, tabulate-ext, tabulate-snoc}
 use Rattle.plan.specs.declared.Template.{Template}
-use Rattle.plan.specs.declared.Successors.{Successors}
 use Rattle.machine.specs.Machine.{Process}
 use Rattle.machine.specs.State.{Cells, wordsFrom, placed, processesOf}
 use Rattle.machine.proofs.Words.{process-same, placed-same}
@@ -27,7 +24,7 @@ use Rattle.blocks.specs.Blocks.{shifted, childTag}
 use Rattle.population.specs.Arrays.{cells}
 use Rattle.blocks.proofs.Rows.{row-room, row-under, row-over}
 use Rattle.blocks.proofs.Shifts.{shifts-all, shifted-in, shifted-below}
-use Rattle.stepping.specs.Spawning.{skipping, newborn, newborns, Room, Advanced}
+use Rattle.spawning.specs.Spawning.{skipping, newborn, newborns, Entered, Room, Advanced}
 
 pub skipping-below : (k : ℕ) (f : ℕ → Process) (i : ℕ) → i < k → skipping k f i ≡ f i
 unfolding skipping
@@ -120,13 +117,27 @@ module _ (M at from serial Y lab creates : ℕ) (row xs₁ xs₂ xs₃ xs₄ ys�
 begins : (M at from : ℕ) → at < 128 → M ≤ 32 → from ≡ at * M → min from 4064 ≡ from
 begins M at from h few e = let r = row-room at M h few in omega arith
 
-pub entered-processes : (M at from serial Y lab creates : ℕ) (row xs₁ xs₂ xs₃ xs₄ ys₁ ys₂ ys₃ ys₄ : List ℕ)
+entered-processes : (M at from serial Y lab creates : ℕ) (row xs₁ xs₂ xs₃ xs₄ ys₁ ys₂ ys₃ ys₄ : List ℕ)
     → at < 128 → M ≤ 32 → length xs₁ ≡ 128 → length xs₂ ≡ 128 → length xs₃ ≡ 128 → from ≡ at * M
     → ys₁ ≡ set xs₁ at serial → ys₂ ≡ set xs₂ at Y → ys₃ ≡ set xs₃ at lab
     → ((j : ℕ) → getD ys₄ j 0 ≡ written xs₄ (min from 4064) 32 (λ i. childTag serial creates (getD row i 0) i) j)
     → processesOf M (at + 1) (cells ys₁ ys₂ ys₃ ys₄) ≡ processesOf M at (cells xs₁ xs₂ xs₃ xs₄) ++ (newborn M row serial Y lab creates ∷ [])
 entered-processes M at from serial Y lab creates row xs₁ xs₂ xs₃ xs₄ ys₁ ys₂ ys₃ ys₄ h few n₁ n₂ n₃ ef e₁ e₂ e₃ e₄ =
     entered M at (min from 4064) serial Y lab creates row xs₁ xs₂ xs₃ xs₄ ys₁ ys₂ ys₃ ys₄ h few n₁ n₂ n₃ (begins M at from h few ef ∙ ef) e₁ e₂ e₃ e₄
+
+-- As the code meets it.
+pub entered-came : (comes : Bool) (M at from serial Y lab creates : ℕ) (row xs₁ xs₂ xs₃ xs₄ ys₁ ys₂ ys₃ ys₄ : List ℕ) → comes ≡ true
+    → length xs₁ ≡ 128 → length xs₂ ≡ 128 → length xs₃ ≡ 128 → from ≡ at * M
+    → ys₁ ≡ set xs₁ at serial → ys₂ ≡ set xs₂ at Y → ys₃ ≡ set xs₃ at lab
+    → ((j : ℕ) → getD ys₄ j 0 ≡ written xs₄ (min from 4064) 32 (λ i. childTag serial creates (getD row i 0) i) j)
+    → Entered comes M at row serial Y lab creates (cells xs₁ xs₂ xs₃ xs₄) (cells ys₁ ys₂ ys₃ ys₄)
+entered-came comes M at from serial Y lab creates row xs₁ xs₂ xs₃ xs₄ ys₁ ys₂ ys₃ ys₄ t n₁ n₂ n₃ ef e₁ e₂ e₃ e₄ = record {
+  came = λ _ h few. entered-processes M at from serial Y lab creates row xs₁ xs₂ xs₃ xs₄ ys₁ ys₂ ys₃ ys₄ h few n₁ n₂ n₃ ef e₁ e₂ e₃ e₄;
+  stayed = λ f. absurd (passes-fails comes t f);
+}
+
+pub entered-not : (comes : Bool) (M at serial Y lab creates : ℕ) (row : List ℕ) (c : Cells) → comes ≡ false → Entered comes M at row serial Y lab creates c c
+entered-not comes M at serial Y lab creates row c f = record { came = λ t. absurd (passes-fails comes t f); stayed = λ _. refl }
 
 -- ---- a process goes and its children come
 
@@ -142,7 +153,7 @@ same-newborn M k from serial Y lab creates row gs few ef er =
     ∙ sym (getD-tabulate M (λ i. getD gs (k * M + i) 0) i 0 h))))
 
 -- The last of several children: gs are the tags before anything moved.
-pub come : (M k from serial Y lab creates : ℕ) (row xs ts ls gs : List ℕ) (d e : Cells) (n : ℕ) (ps : List Process) → k < 128 → M ≤ 32 → from ≡ k * M
+come : (M k from serial Y lab creates : ℕ) (row xs ts ls gs : List ℕ) (d e : Cells) (n : ℕ) (ps : List Process) → k < 128 → M ≤ 32 → from ≡ k * M
     → row ≡ tabulate 32 (λ i. getD gs (min from 4064 + i) 0)
     → processesOf M n d ≡ ps
     → processesOf M (n + 1) e ≡ processesOf M n d ++ (newborn M row serial Y lab creates ∷ [])
@@ -154,78 +165,74 @@ come M k from serial Y lab creates row xs ts ls gs d e n ps h few ef er ed ee =
 
 -- ---- by the number of children
 
--- gs are the tags before anything moved, row the parent's; the process has left d behind.
-module _ (M next k last from : ℕ) (row xs ts ls gs : List ℕ) (heirs : Successors) (t u : Template) (d : Cells)
+-- gs are the tags before anything moved, row the parent's; the process has left d behind, the first child e, the second f.
+module _ (M next k last from : ℕ) (row xs ts ls gs : List ℕ) (count Y : ℕ) (t : Template) (Z : ℕ) (u : Template) (at serial : ℕ) (d e f : Cells)
     (ef : from ≡ k * M) (er : row ≡ tabulate 32 (λ i. getD gs (min from 4064 + i) 0))
-    (gone : k ≤ last → last < 128 → M ≤ 32 → processesOf M last d ≡ tabulate last (skipping k (placed M (cells xs ts ls gs)))) where
+    (gone : k ≤ last → last < 128 → M ≤ 32 → processesOf M last d ≡ tabulate last (skipping k (placed M (cells xs ts ls gs))))
+    (first : Entered (leb 1 count) M last row next Y (t .lab) (t .creates) d e)
+    (ea : at ≡ (last + 1) % 2 ^ 32) (es : serial ≡ (next + 1) % 2 ^ 32)
+    (second : Entered (leb 2 count) M at row serial Z (u .lab) (u .creates) e f)
+    (room : Room M next k last count) where
   abbrev others : List Process
   others = tabulate last (skipping k (placed M (cells xs ts ls gs)))
 
   abbrev tags : List ℕ
   tags = placed M (cells xs ts ls gs) k .tags
 
-  abbrev Left : Cells → Type 0
-  Left e = Room M next k last (heirs .count) → Advanced M next k last (cells xs ts ls gs) heirs t u e
+  abbrev one : Process
+  one = newborn M tags next Y (t .lab) (t .creates)
 
-  advanced : (n : ℕ) (ps : List Process) (e : Cells) → heirs .count ≡ n → processesOf M (last + n) e ≡ others ++ ps
-      → newborns M tags next n (heirs .first) t (heirs .second) u ≡ ps → Advanced M next k last (cells xs ts ls gs) heirs t u e
-  advanced n ps e en ee ep =
-      ap (λ (n : ℕ). processesOf M (last + n) e) en ∙ ee
-      ∙ ap (λ (ps : List Process). others ++ ps) (sym (ap (λ (n : ℕ). newborns M tags next n (heirs .first) t (heirs .second) u) en ∙ ep))
+  abbrev two : Process
+  two = newborn M tags (next + 1) Z (u .lab) (u .creates)
 
-  pub advanced-none : heirs .count ≡ 0 → Left d
+  left-behind : processesOf M last d ≡ others
+  left-behind = gone (room .place) (room .processes) (room .identifiers)
+
+  in-range : k < 128
+  in-range = let h = room .place in let l = room .processes in omega arith
+
+  first-came : 1 ≤ count → processesOf M (last + 1) e ≡ others ++ (one ∷ [])
+  first-came h =
+      come M k from next Y (t .lab) (t .creates) row xs ts ls gs d e last others in-range (room .identifiers) ef er
+      left-behind (first .came (le-leb 1 count h) (room .processes) (room .identifiers))
+
+  -- Neither sum wraps.
+  second-came : 2 ≤ count → processesOf M (last + 1 + 1) f ≡ (others ++ (one ∷ [])) ++ (two ∷ [])
+  second-came h =
+      come M k from (next + 1) Z (u .lab) (u .creates) row xs ts ls gs e f (last + 1) (others ++ (one ∷ [])) in-range (room .identifiers) ef er
+      (first-came (omega arith))
+      (subst (λ (s : ℕ). processesOf M (last + 1 + 1) f ≡ processesOf M (last + 1) e ++ (newborn M row s Z (u .lab) (u .creates) ∷ [])) unwrapped
+      (subst (λ (n : ℕ). processesOf M (n + 1) f ≡ processesOf M n e ++ (newborn M row serial Z (u .lab) (u .creates) ∷ [])) above
+      (second .came (le-leb 2 count h) (let p = room .places in omega (arith, above)) (room .identifiers))))
+    where
+      above : at ≡ last + 1
+      above = ea ∙ mod-eq-of-lt (let l = room .processes in omega arith)
+
+      unwrapped : serial ≡ next + 1
+      unwrapped = es ∙ mod-eq-of-lt (let l = room .serials in omega arith)
+
+  counted : (n : ℕ) (ps : List Process) → count ≡ n → processesOf M (last + n) f ≡ others ++ ps → newborns M tags next n Y t Z u ≡ ps
+      → Advanced M next k last (cells xs ts ls gs) count Y t Z u f
+  counted n ps en e′ ep =
+      ap (λ (n : ℕ). processesOf M (last + n) f) en ∙ e′
+      ∙ ap (λ (ps : List Process). others ++ ps) (sym (ap (λ (n : ℕ). newborns M tags next n Y t Z u) en ∙ ep))
+
+  none : count < 1 → Advanced M next k last (cells xs ts ls gs) count Y t Z u f
   unfolding newborns
-  advanced-none en room =
-      advanced 0 [] d en
-      (ap (λ (n : ℕ). processesOf M n d) (omega arith) ∙ gone (room .place) (room .processes) (room .identifiers) ∙ sym (append-nil others)) refl
+  none h =
+      counted 0 [] (omega arith)
+      (ap₂ (processesOf M) (omega arith) (second .stayed (lt-leb 2 count (omega arith)) ∙ first .stayed (lt-leb 1 count h))
+      ∙ left-behind ∙ sym (append-nil others)) refl
 
-  -- The first child comes, and leaves e behind.
-  module _ (e : Cells) (born : last < 128 → M ≤ 32 → processesOf M (last + 1) e ≡ processesOf M last d ++ (newborn M row next (heirs .first) (t .lab) (t .creates) ∷ []))
-      (n0 : heirs .count ≡ 0 → ⊥) where
-    abbrev one : Process
-    one = newborn M tags next (heirs .first) (t .lab) (t .creates)
+  lone : 1 ≤ count → count < 2 → Advanced M next k last (cells xs ts ls gs) count Y t Z u f
+  unfolding newborns
+  lone l h = counted 1 (one ∷ []) (omega arith) (ap (processesOf M (last + 1)) (second .stayed (lt-leb 2 count h)) ∙ first-came l) refl
 
-    first-come : Room M next k last (heirs .count) → processesOf M (last + 1) e ≡ others ++ (one ∷ [])
-    first-come room =
-        come M k from next (heirs .first) (t .lab) (t .creates) row xs ts ls gs d e last others
-        (let h = room .place in let l = room .processes in omega arith) (room .identifiers) ef er
-        (gone (room .place) (room .processes) (room .identifiers)) (born (room .processes) (room .identifiers))
+  both : 2 ≤ count → Advanced M next k last (cells xs ts ls gs) count Y t Z u f
+  unfolding newborns
+  both h =
+      counted 2 (one ∷ two ∷ []) (let few = room .children in omega arith)
+      (ap (λ (n : ℕ). processesOf M n f) (omega arith) ∙ second-came h ∙ append-assoc others (one ∷ []) (two ∷ [])) refl
 
-    pub advanced-one : heirs .count ≡ 1 → Left e
-    unfolding newborns
-    advanced-one en room = advanced 1 (one ∷ []) e en (first-come room) refl
-
-    -- Where there is room for two, both sums are in range.
-    pub advanced-full : (heirs .count ≡ 1 → ⊥) → (leb 127 last || leb 4294967295 next) ≡ true → Left e
-    advanced-full n1 full room =
-        let few = room .children in
-        let places = room .places in
-        let serials = room .serials in
-        absurd (⊎-elim (λ h. let l = leb-true 127 last h in omega arith) (λ h. let l = leb-true 4294967295 next h in omega arith)
-        (or-cases (leb 127 last) (leb 4294967295 next) full))
-
-    pub advanced-two : (heirs .count ≡ 1 → ⊥) → (f : Cells)
-        → (last + 1 < 128 → M ≤ 32 → processesOf M (last + 1 + 1) f ≡ processesOf M (last + 1) e ++ (newborn M row (next + 1) (heirs .second) (u .lab) (u .creates) ∷ []))
-        → Left f
-    unfolding newborns
-    advanced-two n1 f next-born room =
-        advanced 2 (one ∷ two ∷ []) f en
-        (ap (λ (n : ℕ). processesOf M n f) (omega arith)
-        ∙ come M k from (next + 1) (heirs .second) (u .lab) (u .creates) row xs ts ls gs e f (last + 1) (others ++ (one ∷ []))
-        (let h = room .place in let l = room .processes in omega arith) (room .identifiers) ef er
-        (first-come room) (next-born (let p = room .places in omega (arith, en)) (room .identifiers))
-        ∙ append-assoc others (one ∷ []) (two ∷ [])) refl
-      where
-        two : Process
-        two = newborn M tags (next + 1) (heirs .second) (u .lab) (u .creates)
-
-        en : heirs .count ≡ 2
-        en = let few = room .children in omega arith
-
--- ---- the second child's place and serial fit
-
-pub place-fits : (last next : ℕ) → (leb 127 last || leb 4294967295 next) ≡ false → Fits w32 (last + 1)
-place-fits last next e = let l = leb-false 127 last (or-none (leb 127 last) (leb 4294967295 next) e .0) in omega arith
-
-pub serial-fits : (last next : ℕ) → (leb 127 last || leb 4294967295 next) ≡ false → Fits w32 (next + 1)
-serial-fits last next e = let l = leb-false 4294967295 next (or-none (leb 127 last) (leb 4294967295 next) e .1) in omega arith
+  pub advanced : Advanced M next k last (cells xs ts ls gs) count Y t Z u f
+  advanced = ⊎-elim none (λ l. ⊎-elim (lone l) both (lt-or-le count 2)) (lt-or-le count 1)

@@ -1,8 +1,8 @@
 -- Each array moves down by one place, the tags by one row.
 use borrow.Author.Needs.{needs}
-use Rattle.stepping.proofs.Moves.{left-processes}
-use Rattle.stepping.proofs.leave.Statement.{statement}
-use Rattle.stepping.proofs.leave.Tie as tie
+use Rattle.spawning.proofs.Moves.{left-processes}
+use Rattle.spawning.proofs.leave.Statement.{statement}
+use Rattle.spawning.proofs.leave.Tie as tie
 
 shift-requires : tie.Need-shift-requires
 shift-requires c κs = search needs

@@ -2,13 +2,12 @@
 -- Not to be believed: the contract of a step is stated with the machine alone.
 use Prim.Native.Nat.{ℕ, zero, suc, _+_, _≤_, _<_}
 use mathlib.Core.Path.{_≡_}
-use mathlib.Core.Bool.{cond}
+use mathlib.Core.Bool.{Bool, true, false, cond}
 use mathlib.Core.List.{List, [], _∷_, _++_}
 use lib.Dec.{ltb}
 use lib.ListN.{getD}
 use Rattle.lists.specs.Numbers.{tabulate}
 use Rattle.plan.specs.declared.Template.{Template}
-use Rattle.plan.specs.declared.Successors.{Successors}
 use Rattle.machine.specs.Machine.{Process}
 use Rattle.machine.specs.State.{Cells, placed, processesOf}
 use Rattle.blocks.specs.Blocks.{childTag}
@@ -32,7 +31,12 @@ newborns M tags next zero Y t Z u = []
 newborns M tags next (suc zero) Y t Z u = newborn M tags next Y (t .lab) (t .creates) ∷ []
 newborns M tags next (suc (suc n)) Y t Z u = newborn M tags next Y (t .lab) (t .creates) ∷ newborn M tags (next + 1) Z (u .lab) (u .creates) ∷ []
 
--- There is a process at place k, the highest place that is taken is the last, and there is room for count children.
+-- Where a child was to come it has come after the others, its parent having those tags; else nothing was touched.
+pub record Entered (comes : Bool) (M at : ℕ) (tags : List ℕ) (serial Y lab creates : ℕ) (c d : Cells) : Type 0 where
+  pub came : comes ≡ true → at < 128 → M ≤ 32 → processesOf M (at + 1) d ≡ processesOf M at c ++ (newborn M tags serial Y lab creates ∷ [])
+  pub stayed : comes ≡ false → d ≡ c
+
+-- A process is at place k, the highest is at the last place, and count children have room beside the others.
 pub record Room (M next k last count : ℕ) : Type 0 where
   pub identifiers : M ≤ 32
   pub place : k ≤ last
@@ -41,8 +45,7 @@ pub record Room (M next k last count : ℕ) : Type 0 where
   pub serials : next + count ≤ 4294967295
   pub places : last + count ≤ 128
 
--- The process at place k has gone and its children have come.
-abbrev pub Advanced : ℕ → ℕ → ℕ → ℕ → Cells → Successors → Template → Template → Cells → Type 0
-Advanced M next k last c heirs t u d =
-    processesOf M (last + heirs .count) d
-    ≡ tabulate last (skipping k (placed M c)) ++ newborns M (placed M c k .tags) next (heirs .count) (heirs .first) t (heirs .second) u
+-- The process at place k has gone and its children have come: count of those at templates Y and Z.
+abbrev pub Advanced : ℕ → ℕ → ℕ → ℕ → Cells → ℕ → ℕ → Template → ℕ → Template → Cells → Type 0
+Advanced M next k last c count Y t Z u d =
+    processesOf M (last + count) d ≡ tabulate last (skipping k (placed M c)) ++ newborns M (placed M c k .tags) next count Y t Z u
