@@ -1,4 +1,2 @@
-pub mod Rows
-pub mod Loops
 pub mod Ranges
 pub mod Serials

@@ -1,7 +1,7 @@
--- A range of a list, as the code meets it: whether it stands there, the tests over it, and words copied from one to another.
+-- A range of a list, as the code meets it: whether it stands there, and the tests over it.
 use Prim.Native.Nat.{ℕ, zero, suc, _+_, _-_, _≤_, _<_}
 use mathlib.Core.Path.{_≡_, refl, sym, ap, ap₂, _∙_, fun-ext}
-use mathlib.Core.Bool.{Bool, true, false, not, _&&_, cond}
+use mathlib.Core.Bool.{Bool, true, false, not, _&&_}
 use mathlib.Core.List.{List, [], _∷_}
 use native.Mathlib.Nat.{not-suc-le-zero, le-of-suc-le-suc, zero-add}
 use native.Mathlib.Omega.{arith}
@@ -9,10 +9,8 @@ use lib.ListN.{length, getD, set}
 use lib.Dec.{ltb, leb}
 use borrow.Author.Tests.{le-leb, lt-leb, leb-true, not-true, not-false}
 use Rattle.lists.specs.Numbers.{every}
-use Rattle.lists.specs.Writes.{written}
-use Rattle.lists.proofs.Tests.{and-left, and-right, same-test, passes-fails}
-use Rattle.lists.proofs.Written.{written-none}
-use Rattle.arrays.specs.Places.{holds, rises, copied}
+use Rattle.lists.proofs.Tests.{and-left, same-test, passes-fails}
+use Rattle.arrays.specs.Places.{holds, rises}
 
 -- Past the end nothing is stored.
 pub set-past : (xs : List ℕ) (at v : ℕ) → length xs ≤ at → xs ≡ set xs at v
@@ -55,43 +53,11 @@ pub holds-there : (xs : List ℕ) (from n : ℕ) → from + n ≤ length xs → 
 unfolding holds
 holds-there xs from n h = le-leb (from + n) (length xs) h
 
--- ---- words copied
-
--- a and b are the answers of `is_within` for both ranges.
-module _ (words into : List ℕ) (from at n : ℕ) (a b : Bool) (ea : a ≡ leb (from + n) (length words)) (eb : b ≡ leb (at + n) (length into)) where
-  count-is : (t : Bool) → (a && b) ≡ t → cond t n 0 ≡ copied words from into at n
-  unfolding copied holds
-  count-is t h = ap (λ (t : Bool). cond t n 0) (sym h ∙ ap₂ _&&_ ea eb)
-
-  pub copies-all : (a && b) ≡ true → (ys : List ℕ) → ((j : ℕ) → getD ys j 0 ≡ written into at n (λ i. getD words (from + i) 0) j)
-      → (j : ℕ) → getD ys j 0 ≡ written into at (copied words from into at n) (λ i. getD words (from + i) 0) j
-  copies-all h ys w j = w j ∙ ap (λ (k : ℕ). written into at k (λ i. getD words (from + i) 0) j) (count-is true h)
-
-  pub copies-none : (a && b) ≡ false → (j : ℕ) → getD into j 0 ≡ written into at (copied words from into at n) (λ i. getD words (from + i) 0) j
-  copies-none h j =
-      written-none into at (λ i. getD words (from + i) 0) j
-      ∙ ap (λ (k : ℕ). written into at k (λ i. getD words (from + i) 0) j) (count-is false h)
-
-  pub reads-there : (a && b) ≡ true → from + n ≤ length words
-  reads-there h = leb-true (from + n) (length words) (sym ea ∙ and-left a b h)
-
-  pub writes-there : (a && b) ≡ true → at + n ≤ length into
-  writes-there h = leb-true (at + n) (length into) (sym eb ∙ and-right a b h)
-
 -- ---- for callers: a range that is known to be there
 
 -- Only the test is left of what `all_below` and `none_above` answer, and `is_rising` with `rises` unfolded.
 pub only-test : (xs : List ℕ) (from n : ℕ) (b r : Bool) → from + n ≤ length xs → r ≡ (holds xs from n && b) → r ≡ b
 only-test xs from n b r h e = e ∙ ap (λ (t : Bool). t && b) (holds-there xs from n h)
-
--- All is copied.
-pub copies-there : (words into ys : List ℕ) (from at n : ℕ) → from + n ≤ length words → at + n ≤ length into
-    → ((j : ℕ) → getD ys j 0 ≡ written into at (copied words from into at n) (λ i. getD words (from + i) 0) j)
-    → (j : ℕ) → getD ys j 0 ≡ written into at n (λ i. getD words (from + i) 0) j
-copies-there words into ys from at n h l w j = w j ∙ ap (λ (k : ℕ). written into at k (λ i. getD words (from + i) 0) j) all
-  where
-    all : copied words from into at n ≡ n
-    all = sym (count-is words into from at n true true (sym (le-leb (from + n) (length words) h)) (sym (le-leb (at + n) (length into) l)) true refl)
 
 -- ---- for callers: ranges that begin at 0
 

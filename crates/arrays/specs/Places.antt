@@ -1,13 +1,12 @@
--- What the loops over lent arrays test and leave at each place. A range is n places from `from` on.
+-- What the tests over lent arrays ask at each place. A range is n places from `from` on.
 -- Not to be believed: nothing is stated of an operation by these alone.
 use Prim.Native.Nat.{ℕ, _+_, _-_, _≤_, _<_}
 use mathlib.Core.Path.{_≡_}
-use mathlib.Core.Bool.{Bool, true, _&&_, cond}
+use mathlib.Core.Bool.{Bool, true, _&&_}
 use mathlib.Core.List.{List}
 use lib.ListN.{getD, length}
 use lib.Dec.{eqb, ltb, leb}
 use Rattle.lists.specs.Numbers.{every, lowest}
-use Rattle.mask.specs.Mask.{has}
 
 -- The range stands in the list.
 unfoldable pub holds : List ℕ → ℕ → ℕ → Bool
@@ -28,15 +27,3 @@ pub record Located (xs : List ℕ) (from n s r : ℕ) : Type 0 where
   pub few : r ≤ n
   pub there : r < n → from + n ≤ length xs
   pub first : rises xs from n ≡ true → r ≡ lowest n (λ i. eqb (getD xs (from + i) 0) s)
-
--- How many words are copied: all n where both ranges stand in their lists, and none otherwise.
-unfoldable pub copied : List ℕ → ℕ → List ℕ → ℕ → ℕ → ℕ
-copied words from into at n = cond (holds words from n && holds into at n) n 0
-
--- From `from` up to `to` stands what stood `by` places further on, and elsewhere what stood there.
-unfoldable pub shifted : List ℕ → ℕ → ℕ → ℕ → ℕ → ℕ
-shifted xs from to by j = cond (leb from j && ltb j to) (getD xs (j + by) 0) (getD xs j 0)
-
--- Tag i of a child whose template creates the identifiers of a mask.
-unfoldable pub childTag : ℕ → ℕ → ℕ → ℕ → ℕ
-childTag serial creates parent i = cond (has i creates) serial parent

@@ -16,7 +16,7 @@ use Rattle.planrow.specs.Row.{identifiersIn}
 use Rattle.planrow.specs.Lookup.{planFor}
 use Rattle.arrays.specs.Places.{holds, Located}
 use Rattle.arrays.proofs.Ranges.{holds-there}
-use Rattle.arrays.proofs.Rows.{row-room}
+use Rattle.blocks.proofs.Rows.{row-room}
 use Rattle.machine.specs.declared.Answer.the-variants.{Delivered, Held, Refused}
 use Rattle.machine.specs.Machine.{Machine, send, boxLimits, wellFormed, agree, passes, refuseIf, settled, ifDone, sendBy, answerTo}
 use Rattle.machine.specs.State.{Cells, wordsFrom, placed, machineFrom}

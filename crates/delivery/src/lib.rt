@@ -87,10 +87,10 @@ pub fn attempt<'a>(
         m,
         labels[a],
         tags,
-        arrays::row_start(a as u32, m),
+        blocks::row_start(a as u32, m),
         labels[b],
         tags,
-        arrays::row_start(b as u32, m),
+        blocks::row_start(b as u32, m),
     ) {
         Answer::Delivered
     } else {

@@ -66,8 +66,8 @@ fn print_process(state: State, place: u32) {
     console::print(b" tags=");
     print_tags(
         &state.tags,
-        arrays::row_start(place, m),
-        arrays::row_start(place + 1, m),
+        blocks::row_start(place, m),
+        blocks::row_start(place + 1, m),
     );
     console::print(b"\n");
 }

@@ -6,6 +6,8 @@ use mathlib.Core.List.{List, [], _∷_, _++_}
 use mathlib.Core.Option.{some}
 use native.Mathlib.Numerals.{add-one}
 use native.Mathlib.Omega.{arith}
+use mir.Val.{Fits}
+use mir.Syntax.{w32}
 use lib.Dec.{eqb, leb, ltb}
 use borrow.Author.Tests.{ltb-true}
 use Rattle.lists.proofs.Tests.{and-left, and-right}
@@ -26,15 +28,17 @@ use Rattle.machine.specs.State.{Cells, placed, processesOf, machineFrom, unless
 use Rattle.machine.proofs.Outcomes.{settled-refused, settled-done}
 use Rattle.machine.proofs.Places.{remove-at}
 use Rattle.machine.proofs.Templates.{successors-fit, children-fit, plan-rooted}
-use Rattle.arrays.specs.Places.{Located, childTag}
+use Rattle.arrays.specs.Places.{Located}
+use Rattle.blocks.specs.Blocks.{childTag}
 use Rattle.population.specs.declared.Settled.{Settled}
 use Rattle.population.specs.Arrays.{cells}
-use Rattle.population.specs.Lent.{settles, outcomeFrom, Same, unlessStep, Tried, answerFor}
+use Rattle.population.specs.Lent.{settles, outcomeFrom, unlessStep, Tried, answerFor}
 use Rattle.population.proofs.Fits.{length-processes, formed-plan, formed-template, formed-identifiers, formed-few, formed-lookup, looked-at}
 use Rattle.population.proofs.Lent.{numbered, untouched, tried-same, placed-at, found-none, found-some, found-serial, alone}
 use Rattle.admission.specs.Admission.{innocent, fitting, allFitting, refusalOf}
-use Rattle.stepping.specs.Stepping.{skipping, newborn, newborns, Advanced, SteppedAt}
-use Rattle.stepping.proofs.Moves.{skipping-below, skipping-above}
+use Rattle.spawning.specs.Spawning.{skipping, newborn, newborns, Room, Advanced}
+use Rattle.stepping.specs.Stepping.{SteppedAt}
+use Rattle.spawning.proofs.Moves.{skipping-below, skipping-above}
 
 -- ---- the list of children and the code's two
 
@@ -116,19 +120,19 @@ module _ (plan : Plan) (next live : ℕ) (c : Cells) (k branch : ℕ) (well : we
     unfolding stepBy machineFrom placed
     step-refused n = sym (settled-refused _ _ _ q (answers ∙ numbered q n))
 
-    step-done : (r : Settled) (d : Cells) → q ≡ 0 → Advanced (plan .identifiers) next live c k heirs first second r d → Stepped r d
+    step-done : (d : Cells) → q ≡ 0 → Advanced (plan .identifiers) next k (live - 1) c (heirs .count) (heirs .first) first (heirs .second) second d
+        → Stepped (settles Done (next + heirs .count) (live - 1 + heirs .count)) d
     unfolding stepBy stepped machineFrom placed
-    step-done r d z w =
-        (λ i. record { answer = w .done i; machine = record { plan = plan; next = serials i; live = processes i } })
+    step-done d z w =
+        (λ i. record { answer = Done; machine = record { plan = plan; next = serials i; live = processes i } })
         ∙ sym (settled-done _ _ _ (answers ∙ ap answerFor z))
       where
-        serials : r .next ≡ next + length templates
-        serials =
-            w .serials ∙ ap (λ (n : ℕ). next + n) (sym (ap length same-templates ∙ length-listed (heirs .count) (heirs .first) (heirs .second) few))
+        serials : next + heirs .count ≡ next + length templates
+        serials = ap (λ (n : ℕ). next + n) (sym (ap length same-templates ∙ length-listed (heirs .count) (heirs .first) (heirs .second) few))
 
-        processes : processesOf M (r .live) d ≡ remove s (processesOf M live c) ++ spawn plan (placed M c k) next templates
+        processes : processesOf M (live - 1 + heirs .count) d ≡ remove s (processesOf M live c) ++ spawn plan (placed M c k) next templates
         processes =
-            w .processes
+            w
             ∙ sym (ap₂ _++_ removed
             (ap (spawn plan (placed M c k) next) same-templates ∙ spawn-newborns plan (heirs .first) (heirs .second) first second e₁ e₂ (placed M c k) next (heirs .count)))
 
@@ -194,14 +198,17 @@ module _ (row : List ℕ) (next live : ℕ) (c : Cells) (k branch : ℕ) (h : k 
           same = untouched (planFor row) next live c (Refused q);
         })
 
-    pub place-done : (r : Settled) (d : Cells) → q ≡ 0 → Advanced w next live c k heirs first second r d → SteppedAt (planFor row) next live c k branch r d
+    pub place-done : (r : Settled) (d : Cells) → q ≡ 0 → Room w next k (live - 1) (heirs .count)
+        → (Room w next k (live - 1) (heirs .count) → Advanced w next k (live - 1) c (heirs .count) (heirs .first) first (heirs .second) second d)
+        → r ≡ settles Done (next + heirs .count) (live - 1 + heirs .count) → SteppedAt (planFor row) next live c k branch r d
     unfolding unlessDone
-    place-done r d z v = record {
-      means = λ well.
-          step-done (planFor row) next live c k branch well h t (found well) heirs eh few first second (e₁ well) (e₂ well) q (eq′ well) r d z
-          (subst (λ (M : ℕ). Advanced M next live c k heirs first second r d) (sym (M-is well)) v);
-      same = subst (λ (a : Answer). unlessDone a (Same next live c r d)) (sym (v .done)) Prim.tt;
-    }
+    place-done r d z room v er =
+        subst (λ (r : Settled). SteppedAt (planFor row) next live c k branch r d) (sym er) (record {
+          means = λ well.
+              step-done (planFor row) next live c k branch well h t (found well) heirs eh few first second (e₁ well) (e₂ well) q (eq′ well) d z
+              (subst (λ (M : ℕ). Advanced M next k (live - 1) c (heirs .count) (heirs .first) first (heirs .second) second d) (sym (M-is well)) (v room));
+          same = Prim.tt;
+        })
 
 -- ---- 21 and the rest; n is live as an index
 
@@ -235,3 +242,9 @@ module _ (row : List ℕ) (next live n : ℕ) (xs ts ls gs : List ℕ) (serial b
 -- The place is one of the array's.
 pub step-place : (live n : ℕ) (xs : List ℕ) (serial k : ℕ) → n ≡ live → length xs ≡ 128 → Located xs 0 live serial k → k < n → (k < live) × (live ≤ 128)
 step-place live n xs serial k en sized at-k l = let q = at-k .there (omega (arith, en, l)) in (omega (arith, en, l), omega (arith, q, sized))
+
+pub some-live : (k live : ℕ) → k < live → 1 ≤ live
+some-live k live h = omega arith
+
+pub place-word : (k live : ℕ) → k < live → live ≤ 128 → Fits w32 k
+place-word k live h l = omega arith

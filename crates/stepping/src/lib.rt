@@ -1,195 +1,13 @@
-// Document 01, Step, on a lent row and lent arrays, below refusal 20: the process goes, the places above it move down, its
-// children come after all others.
+// Document 01, Step, on a lent row and lent arrays, below refusal 20: the process is found, and refused or moved on.
 use machine::Answer;
-use plan::Successors;
-use plan::Template;
 use planrow::WORDS;
 use population::Settled;
-ghost use mathlib.Core.Path.{_≡_};
-ghost use mathlib.Core.List.{[], _∷_, _++_};
-ghost use Prim.Native.Nat.{_<_, _≤_, _+_};
-ghost use Rattle.lists.specs.Numbers.{tabulate};
+ghost use Prim.Native.Nat.{_<_, _≤_};
 ghost use Rattle.planrow.specs.Lookup.{planFor};
 ghost use Rattle.machine.specs.Machine.{step};
-ghost use Rattle.machine.specs.State.{placed, processesOf};
 ghost use Rattle.population.specs.Arrays.{cells};
 ghost use Rattle.population.specs.Lent.{Tried};
-ghost use Rattle.stepping.specs.Stepping.{skipping, newborn, Room, Advanced, SteppedAt};
-
-// The process at place k goes: those above it move down.
-fn leave<'a>(
-    m: u32,
-    k: usize,
-    last: usize,
-    serials: &'a mut [u32; 128],
-    templates: &'a mut [u32; 128],
-    labels: &'a mut [u32; 128],
-    tags: &'a mut [u32; 4096],
-)
-    requires { ⌜ (k ≤ last) × (last < 128) × (m ≤ 32) ⌝ }
-    ensures { λ _.
-        let c = cells (now (serials .entry)) (now (templates .entry)) (now (labels .entry)) (now (tags .entry)) in
-        let d = cells (now (serials .exit)) (now (templates .exit)) (now (labels .exit)) (now (tags .exit)) in
-        ⌜ processesOf m last d ≡ tabulate last (skipping k (placed m c)) ⌝ }
-{
-    arrays::shift(serials, k, last, 1);
-    arrays::shift(templates, k, last, 1);
-    arrays::shift(labels, k, last, 1);
-    let from = arrays::row_start(k as u32, m);
-    let to = arrays::row_start(last as u32, m);
-    arrays::shift(tags, from, to, m as usize);
-}
-
-// A child at template y comes to the place after the others; row holds its parent's tags.
-fn enter<'a>(
-    m: u32,
-    at: usize,
-    serial: u32,
-    y: u32,
-    lab: u32,
-    creates: u32,
-    row: [u32; 32],
-    serials: &'a mut [u32; 128],
-    templates: &'a mut [u32; 128],
-    labels: &'a mut [u32; 128],
-    tags: &'a mut [u32; 4096],
-)
-    requires { ⌜ (at < 128) × (m ≤ 32) ⌝ }
-    ensures { λ _.
-        let c = cells (now (serials .entry)) (now (templates .entry)) (now (labels .entry)) (now (tags .entry)) in
-        let d = cells (now (serials .exit)) (now (templates .exit)) (now (labels .exit)) (now (tags .exit)) in
-        ⌜ processesOf m (at + 1) d ≡ processesOf m at c ++ (newborn m row serial y lab creates ∷ []) ⌝ }
-{
-    arrays::put(serials, at, serial);
-    arrays::put(templates, at, y);
-    arrays::put(labels, at, lab);
-    let from = arrays::row_start(at as u32, m);
-    arrays::write_row(tags, from, row, creates, serial);
-}
-
-// The process at place k goes, and its one child comes.
-fn replace<'a>(
-    m: u32,
-    k: usize,
-    last: usize,
-    serial: u32,
-    y: u32,
-    t: Template,
-    serials: &'a mut [u32; 128],
-    templates: &'a mut [u32; 128],
-    labels: &'a mut [u32; 128],
-    tags: &'a mut [u32; 4096],
-)
-    requires { ⌜ (k ≤ last) × (last < 128) × (m ≤ 32) ⌝ }
-    ensures { λ _.
-        let c = cells (now (serials .entry)) (now (templates .entry)) (now (labels .entry)) (now (tags .entry)) in
-        let d = cells (now (serials .exit)) (now (templates .exit)) (now (labels .exit)) (now (tags .exit)) in
-        ⌜ processesOf m (last + 1) d ≡ tabulate last (skipping k (placed m c)) ++ (newborn m (placed m c k .tags) serial y (t .lab) (t .creates) ∷ []) ⌝ }
-{
-    let from = arrays::row_start(k as u32, m);
-    let row = arrays::copy_row(tags, from);
-    leave(m, k, last, serials, templates, labels, tags);
-    enter(
-        m,
-        last,
-        serial,
-        y,
-        t.lab,
-        t.creates,
-        row,
-        serials,
-        templates,
-        labels,
-        tags,
-    );
-}
-
-// The process at place k goes, and its two children come, the first with the lower serial.
-fn fork<'a>(
-    m: u32,
-    k: usize,
-    last: usize,
-    serial: u32,
-    y: u32,
-    t: Template,
-    z: u32,
-    u: Template,
-    serials: &'a mut [u32; 128],
-    templates: &'a mut [u32; 128],
-    labels: &'a mut [u32; 128],
-    tags: &'a mut [u32; 4096],
-)
-    requires { ⌜ (k ≤ last) × (last + 1 < 128) × (m ≤ 32) × (serial + 1 < 4294967296) ⌝ }
-    ensures { λ _.
-        let c = cells (now (serials .entry)) (now (templates .entry)) (now (labels .entry)) (now (tags .entry)) in
-        let d = cells (now (serials .exit)) (now (templates .exit)) (now (labels .exit)) (now (tags .exit)) in
-        ⌜ processesOf m (last + 1 + 1) d ≡ (tabulate last (skipping k (placed m c)) ++ (newborn m (placed m c k .tags) serial y (t .lab) (t .creates) ∷ [])) ++ (newborn m (placed m c k .tags) (serial + 1) z (u .lab) (u .creates) ∷ []) ⌝ }
-{
-    let from = arrays::row_start(k as u32, m);
-    let row = arrays::copy_row(tags, from);
-    replace(m, k, last, serial, y, t, serials, templates, labels, tags);
-    enter(
-        m,
-        last + 1,
-        serial + 1,
-        z,
-        u.lab,
-        u.creates,
-        row,
-        serials,
-        templates,
-        labels,
-        tags,
-    );
-}
-
-// "Else the process goes": its children are those of the first count of the two templates.
-fn advance<'a>(
-    m: u32,
-    next: u32,
-    live: u32,
-    k: usize,
-    heirs: Successors,
-    first: Template,
-    second: Template,
-    serials: &'a mut [u32; 128],
-    templates: &'a mut [u32; 128],
-    labels: &'a mut [u32; 128],
-    tags: &'a mut [u32; 4096],
-) -> Settled
-    requires { ⌜ Room m next live k (heirs .count) ⌝ }
-    ensures { λ r.
-        let c = cells (now (serials .entry)) (now (templates .entry)) (now (labels .entry)) (now (tags .entry)) in
-        let d = cells (now (serials .exit)) (now (templates .exit)) (now (labels .exit)) (now (tags .exit)) in
-        ⌜ Advanced m next live c k heirs first second r d ⌝ }
-{
-    let y = heirs.first as u32;
-    let z = heirs.second as u32;
-    let last = arrays::index(live - 1);
-    if heirs.count == 0 {
-        leave(m, k, last, serials, templates, labels, tags);
-        return population::settle(Answer::Done, next, live - 1);
-    }
-    if heirs.count == 1 {
-        replace(m, k, last, next, y, first, serials, templates, labels, tags);
-        return population::settle(Answer::Done, next + 1, live);
-    }
-    fork(
-        m,
-        k,
-        last,
-        next,
-        y,
-        first,
-        z,
-        second,
-        serials,
-        templates,
-        labels,
-        tags,
-    );
-    population::settle(Answer::Done, next + 2, live + 1)
-}
+ghost use Rattle.stepping.specs.Stepping.{SteppedAt};
 
 // The step of the process at place k. A row of more than 32 identifiers means a bad state, whose tags have no places.
 fn step_at<'a>(
@@ -217,35 +35,33 @@ fn step_at<'a>(
     let t = planrow::template_at(row, templates[k]);
     let form = t.form;
     let heirs = admission::children_of(form, branch);
-    let first = planrow::template_at(row, heirs.first as u32);
-    let second = planrow::template_at(row, heirs.second as u32);
-    let number = admission::refusal(
-        m,
-        next,
-        live,
-        labels[k],
-        t,
-        branch,
-        heirs.count,
-        first,
-        second,
-    );
+    let count = heirs.count;
+    let y = heirs.first as u32;
+    let z = heirs.second as u32;
+    let first = planrow::template_at(row, y);
+    let second = planrow::template_at(row, z);
+    let number = admission::refusal(m, next, live, labels[k], t, branch, count, first, second);
     if number != 0 {
         return population::settle(Answer::Refused(number), next, live);
     }
-    advance(
+    let last = live - 1;
+    spawning::advance(
         m,
         next,
-        live,
-        k,
-        heirs,
+        k as u32,
+        last,
+        count,
+        y,
         first,
+        z,
         second,
         serials,
         templates,
         labels,
         tags,
-    )
+    );
+    let born = count as u32;
+    population::settle(Answer::Done, next + born, last + born)
 }
 
 // Document 01, Step: 21, then 22 to 25 for the process found.
