@@ -94,7 +94,7 @@ fn identifier_serves<'a>(
         return true;
     }
     let creators = route::creators(creates, t);
-    !route::shares_tag(first, second, forks, creators, a.source, a.sink, a.anc)
+    !relations::shares_tag(first, second, forks, creators, a.source, a.sink, a.anc)
 }
 
 // Whether some identifier serves, rising.
@@ -146,7 +146,7 @@ fn include_parted<'a>(
         return found;
     }
     let creators = route::creators(creates, t);
-    if !route::splits_tag(first, second, forks, creators, a.source, a.sink, a.anc) {
+    if !relations::splits_tag(first, second, forks, creators, a.source, a.sink, a.anc) {
         return found;
     }
     mask::insert_u32(found, t)

@@ -1,8 +1,8 @@
--- `route::crosses` is the test of `crosses` with each of its four parts asked once.
+-- `relations::crosses` is the test of `crosses` with each of its four parts asked once.
 use borrow.Author.Needs.{needs}
-use Rattle.route.proofs.Steps.{crosses-is}
-use Rattle.route.proofs.crosses.Statement.{statement}
-use Rattle.route.proofs.crosses.Tie as tie
+use Rattle.relations.proofs.Steps.{crosses-is}
+use Rattle.relations.proofs.crosses.Statement.{statement}
+use Rattle.relations.proofs.crosses.Tie as tie
 
 contains-u64-requires : tie.Need-contains-u64-requires
 contains-u64-requires c κs = search needs

@@ -1,8 +1,8 @@
--- `route::widen` includes x among the ways.
+-- `relations::widen` includes x among the ways.
 use borrow.Author.Needs.{needs}
-use Rattle.route.proofs.Steps.{widen-is}
-use Rattle.route.proofs.widen.Statement.{statement}
-use Rattle.route.proofs.widen.Tie as tie
+use Rattle.relations.proofs.Steps.{widen-is}
+use Rattle.relations.proofs.widen.Statement.{statement}
+use Rattle.relations.proofs.widen.Tie as tie
 
 include-requires : tie.Need-include-requires
 include-requires c κs = search needs

@@ -1,8 +1,8 @@
--- `route::leads` is the test of `leads` with one search made.
+-- `relations::leads` is the test of `leads` with one search made.
 use borrow.Author.Needs.{needs}
-use Rattle.route.proofs.Steps.{leads-is}
-use Rattle.route.proofs.leads.Statement.{statement}
-use Rattle.route.proofs.leads.Tie as tie
+use Rattle.relations.proofs.Steps.{leads-is}
+use Rattle.relations.proofs.leads.Statement.{statement}
+use Rattle.relations.proofs.leads.Tie as tie
 
 search-from-requires : tie.Need-search-from-requires
 search-from-requires c κs = search needs

@@ -1,8 +1,8 @@
--- `route::some_successor_leads`: past the places there is none; below, the two of the layout.
+-- `relations::some_successor_leads`: past the places there is none; below, the two of the layout.
 use borrow.Author.Needs.{needs}
-use Rattle.route.proofs.Steps.{none-leads, either-leads}
-use Rattle.route.proofs.some_successor_leads.Statement.{statement}
-use Rattle.route.proofs.some_successor_leads.Tie as tie
+use Rattle.relations.proofs.Steps.{none-leads, either-leads}
+use Rattle.relations.proofs.some_successor_leads.Statement.{statement}
+use Rattle.relations.proofs.some_successor_leads.Tie as tie
 
 returns : tie.Need-returns
 returns c = search none-leads

@@ -1,8 +1,8 @@
--- `route::fork_crosses`, by cases: a template that is no fork or not reached, and a fork.
+-- `relations::fork_crosses`, by cases: a template that is no fork or not reached, and a fork.
 use borrow.Author.Needs.{needs}
-use Rattle.route.proofs.Steps.{fork-unreached, fork-reached}
-use Rattle.route.proofs.fork_crosses.Statement.{statement}
-use Rattle.route.proofs.fork_crosses.Tie as tie
+use Rattle.relations.proofs.Steps.{fork-unreached, fork-reached}
+use Rattle.relations.proofs.fork_crosses.Statement.{statement}
+use Rattle.relations.proofs.fork_crosses.Tie as tie
 
 contains-u64-requires : tie.Need-contains-u64-requires
 contains-u64-requires c κs = search needs

@@ -1,13 +1,13 @@
--- `route::find_targets`: the targets have their ways below x. The measure is what is left of 64.
+-- `relations::find_targets`: the targets have their ways below x. The measure is what is left of 64.
 use Prim.Native.Nat.{_-_, _≤_}
 use mathlib.Core.Path.{_≡_}
 use native.Mathlib.Omega.{arith}
 use borrow.Author.Needs.{needs}
 use Rattle.route.specs.Search.{targets}
 use Rattle.route.specs.Layout.{laidOut}
-use Rattle.route.proofs.Steps.{targets-none, targets-more, targets-end}
-use Rattle.route.proofs.find_targets.Statement.{statement}
-use Rattle.route.proofs.find_targets.Tie as tie
+use Rattle.relations.proofs.Steps.{targets-none, targets-more, targets-end}
+use Rattle.relations.proofs.find_targets.Statement.{statement}
+use Rattle.relations.proofs.find_targets.Tie as tie
 
 abbrev Inv-loop : tie.InvT-loop
 Inv-loop first second barred via source sink to₀ x₀ to x = (x ≤ 64) × (to ≡ targets x (laidOut first second) barred via source sink)

@@ -1,15 +1,15 @@
--- `route::some_fork_crosses`: the loop has asked every template below x. The measure is what is left of 64.
+-- `relations::some_fork_crosses`: the loop has asked every template below x. The measure is what is left of 64.
 use Prim.Native.Nat.{_-_, _≤_}
 use mathlib.Core.Path.{_≡_, sym}
 use native.Mathlib.Omega.{arith}
 use borrow.Author.Needs.{needs}
 use Rattle.lists.specs.Numbers.{any}
 use Rattle.lists.proofs.Every.{any-none}
 use Rattle.route.specs.Search.{forkCrosses}
 use Rattle.route.specs.Layout.{laidOut}
-use Rattle.route.proofs.Steps.{any-more, any-all}
-use Rattle.route.proofs.some_fork_crosses.Statement.{statement}
-use Rattle.route.proofs.some_fork_crosses.Tie as tie
+use Rattle.relations.proofs.Steps.{any-more, any-all}
+use Rattle.relations.proofs.some_fork_crosses.Statement.{statement}
+use Rattle.relations.proofs.some_fork_crosses.Tie as tie
 
 abbrev Inv-loop : tie.InvT-loop
 Inv-loop first second barred to forks found₀ x₀ found x = (x ≤ 64) × (found ≡ any x (forkCrosses (laidOut first second) barred to forks))

@@ -1,9 +1,9 @@
--- `route::extend`: where x is not of the templates via it is no way; else the search from x says to which targets it
+-- `relations::extend`: where x is not of the templates via it is no way; else the search from x says to which targets it
 -- is.
 use borrow.Author.Needs.{needs}
-use Rattle.route.proofs.Steps.{extend-none, extend-some}
-use Rattle.route.proofs.extend.Statement.{statement}
-use Rattle.route.proofs.extend.Tie as tie
+use Rattle.relations.proofs.Steps.{extend-none, extend-some}
+use Rattle.relations.proofs.extend.Statement.{statement}
+use Rattle.relations.proofs.extend.Tie as tie
 
 contains-u64-requires : tie.Need-contains-u64-requires
 contains-u64-requires c κs = search needs

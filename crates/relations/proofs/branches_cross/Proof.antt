@@ -1,8 +1,8 @@
--- `route::branches_cross`: both searches are made, and both assignments asked.
+-- `relations::branches_cross`: both searches are made, and both assignments asked.
 use borrow.Author.Needs.{needs}
-use Rattle.route.proofs.Steps.{branches-cross-is}
-use Rattle.route.proofs.branches_cross.Statement.{statement}
-use Rattle.route.proofs.branches_cross.Tie as tie
+use Rattle.relations.proofs.Steps.{branches-cross-is}
+use Rattle.relations.proofs.branches_cross.Statement.{statement}
+use Rattle.relations.proofs.branches_cross.Tie as tie
 
 search-from-requires : tie.Need-search-from-requires
 search-from-requires c κs = search needs
