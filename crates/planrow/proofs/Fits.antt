@@ -1,23 +1,26 @@
 -- The plan's part of refusal 20 in the words of a row: the row stands for `planFor row`.
-use Prim.Native.Nat.{ℕ, zero, suc, _+_, _^_, _≤_, _<_}
+use Prim.Native.Nat.{ℕ, zero, suc, _+_, _-_, _^_, _≤_, _<_}
 use mathlib.Core.Path.{_≡_, refl, sym, ap, ap₂, _∙_, subst}
-use mathlib.Core.Bool.{Bool, true, false, _&&_, _||_, and-true, and-false, and-assoc}
+use mathlib.Core.Logic.{⊎-elim}
+use mathlib.Core.Bool.{Bool, true, false, not, _&&_, _||_, and-true, and-false, and-assoc}
 use mathlib.Core.List.{List}
 use native.Mathlib.Omega.{arith}
 use lib.ListN.{getD}
 use lib.Dec.{ltb, leb}
 use lib.Pow.{pow-pos}
 use lib.Bits.{bitOr, and-le-r, or-comm, or-lt, or-add-and}
-use borrow.Author.Tests.{le-ltb, lt-ltb, ltb-true, le-leb, lt-leb}
+use borrow.Author.Tests.{le-ltb, lt-ltb, ltb-true, le-leb, lt-leb, leb-true}
 use Rattle.lists.specs.Numbers.{every, all}
-use Rattle.lists.proofs.Tests.{and-left, and-right, and-of, fails, passes-fails, same-test}
+use Rattle.lists.proofs.Tests.{lt-or-le, and-left, and-right, and-of, fails, passes-fails, same-test}
 use Rattle.lists.proofs.Every.{every-ext, every-and, every-start, every-acc, every-done}
+use Rattle.plan.specs.declared.Template.{Template}
 use Rattle.plan.specs.Plan.{at, successors, masks, templateFits}
 use Rattle.machine.specs.Machine.{planFits}
 use Rattle.machine.proofs.Templates.{none-unfit}
-use Rattle.planrow.specs.Row.{begins, countIn, identifiersIn, wordAt, formOf, templateOf, isTemplate, templateIn, isPlan}
-use Rattle.planrow.specs.Lookup.{planFor, templateAt}
-use Rattle.planrow.proofs.Reading.{word-first, template-tested, plan-template}
+use Rattle.planrow.specs.Row.{riskWord, countIn, identifiersIn, wordAt, formOf, templateOf, isTemplate, templateIn, isPlan}
+use Rattle.planrow.specs.Lookup.{partAt, word, planFor, templateAt}
+use Rattle.planrow.proofs.Reading.{plan-template}
+use Rattle.planrow.proofs.Parts.{part-tested, part-template}
 use Rattle.planrow.proofs.Lookup.{stands-not, stands-count, stands-identifiers, stands-at, looked-up}
 
 -- ---- a plan that fits is that of a row that means one
@@ -46,6 +49,37 @@ module _ (row : List ℕ) (f : planFits (planFor row) ≡ true) where
 
 -- ---- the test, over the words alone
 
+-- The counts n and m are in bounds.
+pub record Counted (n m : ℕ) : Type 0 where
+  pub some : 1 ≤ n
+  pub few : n ≤ 64
+  pub narrow : m ≤ 32
+
+-- As the code asks them.
+module _ (n m : ℕ) where
+  not-below : (a b : ℕ) → leb a b ≡ not (ltb b a)
+  not-below a b = ⊎-elim (λ h. rw (lt-leb a b h, lt-ltb b a h)) (λ h. rw (le-leb a b h, le-ltb b a h)) (lt-or-le b a)
+
+  at-least : ltb 0 n ≡ not (ltb n 1)
+  at-least = ⊎-elim (λ h. rw (le-ltb 0 n (omega arith), lt-ltb n 1 h)) (λ h. rw (lt-ltb 0 n h, le-ltb n 1 h)) (lt-or-le n 1)
+
+  counts-asked : (ltb 0 n && (leb n 64 && leb m 32)) ≡ not (ltb n 1 || (ltb 64 n || ltb 32 m))
+  counts-asked = ap₂ _&&_ at-least (ap₂ _&&_ (not-below n 64) (not-below m 32)) ∙ go (ltb n 1) (ltb 64 n) (ltb 32 m)
+    where
+      go : (a b c : Bool) → (not a && (not b && not c)) ≡ not (a || (b || c))
+      go true b c = refl
+      go false true c = refl
+      go false false c = refl
+
+  pub counted : (ltb n 1 || (ltb 64 n || ltb 32 m)) ≡ false → Counted n m
+  counted e =
+      let q : (ltb 0 n && (leb n 64 && leb m 32)) ≡ true = counts-asked ∙ ap not e in
+      record {
+        some = ltb-true 0 n (and-left (ltb 0 n) _ q);
+        few = leb-true n 64 (and-left (leb n 64) _ (and-right (ltb 0 n) _ q));
+        narrow = leb-true m 32 (and-right (leb n 64) _ (and-right (ltb 0 n) _ q));
+      }
+
 module _ (row : List ℕ) where
   -- What is asked of template X beside the counts n and m,
   abbrev pub fitsAt : ℕ → ℕ → ℕ → Bool
@@ -58,6 +92,10 @@ module _ (row : List ℕ) where
   -- and in all.
   abbrev fits : ℕ → ℕ → Bool
   fits n m = counts n m && every n (fitsAt n m)
+
+  -- The code asks the first of the words that it lends.
+  pub fits-part : (X n m : ℕ) (ws : List ℕ) (r : Bool) → ws ≡ partAt row X → r ≡ (isTemplate (word ws) && templateFits n m (templateOf (word ws))) → r ≡ fitsAt n m X
+  fits-part X n m ws r w e = e ∙ ap₂ (λ (b : Bool) (t : Template). b && templateFits n m t) (part-tested row X ws w) (part-template row X ws w)
 
   abbrev N : ℕ
   N = countIn row
@@ -97,18 +135,13 @@ module _ (row : List ℕ) where
     by-counts : planFits (planFor row) ≡ fits n m
     by-counts = in-words ∙ sym (ap₂ fits en em)
 
-    pub row-empty : n < 1 → false ≡ planFits (planFor row)
-    row-empty h = sym (by-counts ∙ rw (le-ltb 0 n (omega arith)))
+    pub row-uncounted : (ltb n 1 || (ltb 64 n || ltb 32 m)) ≡ true → false ≡ planFits (planFor row)
+    row-uncounted e =
+        sym (by-counts ∙ ap (λ (b : Bool). b && every n (fitsAt n m)) (counts-asked n m ∙ ap not e))
 
-    pub row-many : 1 ≤ n → 64 < n → false ≡ planFits (planFor row)
-    row-many k h = sym (by-counts ∙ rw (lt-ltb 0 n k, lt-leb n 64 h))
-
-    pub row-wide : 1 ≤ n → n ≤ 64 → 32 < m → false ≡ planFits (planFor row)
-    row-wide k l h = sym (by-counts ∙ rw (lt-ltb 0 n k, le-leb n 64 l, lt-leb m 32 h))
-
-    pub row-gathered : (i : ℕ) (r : Bool) → 1 ≤ n → n ≤ 64 → m ≤ 32 → i ≤ n → n ≤ i → r ≡ every i (fitsAt n m) → r ≡ planFits (planFor row)
-    row-gathered i r k l h a b e =
-        every-done n (fitsAt n m) i r a b e ∙ sym (by-counts ∙ rw (lt-ltb 0 n k, le-leb n 64 l, le-leb m 32 h))
+    pub row-gathered : (i : ℕ) (r : Bool) → Counted n m → i ≤ n → n ≤ i → r ≡ every i (fitsAt n m) → r ≡ planFits (planFor row)
+    row-gathered i r k a b e =
+        every-done n (fitsAt n m) i r a b e ∙ sym (by-counts ∙ rw (lt-ltb 0 n (k .some), le-leb n 64 (k .few), le-leb m 32 (k .narrow)))
 
 -- ---- a template's words
 
@@ -150,47 +183,46 @@ regrouped true true true false true q r = and-false q
 regrouped true true true false false q r = refl
 regrouped true true true true p q r = sym (and-assoc p q r)
 
-module _ (row : List ℕ) (X n m : ℕ) where
-  abbrev word : ℕ → ℕ
-  word k = getD row (begins X + k) 0
-
+module _ (ws : List ℕ) (n m : ℕ) where
   -- s, t and r are the answers of `successor_fits` and `are_masks`.
   pub template-gathered : (s t r : Bool)
-      → s ≡ (leb (word 1) 255 && (ltb (getD row (begins X) 0) 1 || ltb (word 1) n))
-      → t ≡ (leb (word 2) 255 && (ltb (getD row (begins X) 0) 2 || ltb (word 2) n))
-      → r ≡ all (λ mask. ltb mask (2 ^ m)) (masks (templateIn row X))
-      → (leb (getD row (begins X) 0) 3 && (s && (t && (leb (word 7) 1 && r)))) ≡ fitsAt row n m X
-  unfolding isTemplate templateFits templateIn templateOf wordAt
+      → s ≡ (leb (word ws 1) 255 && (ltb (word ws 0) 1 || ltb (word ws 1) n))
+      → t ≡ (leb (word ws 2) 255 && (ltb (word ws 0) 2 || ltb (word ws 2) n))
+      → r ≡ all (λ mask. ltb mask (2 ^ m)) (masks (templateOf (word ws)))
+      → (leb (word ws 0) 3 && (s && (t && (leb (word ws 7) 1 && r)))) ≡ (isTemplate (word ws) && templateFits n m (templateOf (word ws)))
+  unfolding isTemplate templateFits templateOf
   template-gathered s t r es et er =
-      (λ i. leb (getD row (begins X) 0) 3 && (es i && (et i && (leb (word 7) 1 && er i))))
-      ∙ regrouped (leb (getD row (begins X) 0) 3) (leb (word 1) 255) (leb (word 2) 255) (leb (word 7) 1) _ _ _
-      ∙ ap₂ _&&_ (template-tested row X)
-      (ap₂ _&&_ (ap below (word-first row X) ∙ successors-below (wordAt row X 0) (word 1) (word 2) n) refl)
-    where
-      below : ℕ → Bool
-      below k = (ltb k 1 || ltb (word 1) n) && (ltb k 2 || ltb (word 2) n)
+      (λ i. leb (word ws 0) 3 && (es i && (et i && (leb (word ws 7) 1 && er i))))
+      ∙ regrouped (leb (word ws 0) 3) (leb (word ws 1) 255) (leb (word ws 2) 255) (leb (word ws 7) 1) _ _ _
+      ∙ ap (λ (b : Bool). isTemplate (word ws) && (b && all (λ mask. ltb mask (2 ^ m)) (masks (templateOf (word ws)))))
+      (successors-below (word ws 0) (word ws 1) (word ws 2) n)
 
--- How many masks a template has.
-abbrev pub maskCount : ℕ
-maskCount = 4
+-- What is joined of the masks among the words below k is below 2 ^ m exactly where each of them is.
+pub record Joined (ws : List ℕ) (m joined k : ℕ) : Type 0 where
+  pub begun : 3 ≤ k
+  pub so-far : k ≤ riskWord
+  pub below : ltb joined (2 ^ m) ≡ every (k - 3) (λ j. ltb (word ws (3 + j)) (2 ^ m))
 
--- After k masks of template X what is in any of them is below 2 ^ m exactly where each is.
-module _ (row : List ℕ) (X m : ℕ) where
-  abbrev pub masksBelow : ℕ → Bool
-  masksBelow k = every k (λ j. ltb (wordAt row X (3 + j)) (2 ^ m))
+module _ (ws : List ℕ) (m : ℕ) where
+  pub joined-none : Joined ws m 0 3
+  joined-none = record { begun = omega arith; so-far = omega arith; below = lt-ltb 0 (2 ^ m) (pow-pos m) ∙ every-start _ }
 
-  pub joined-none : ltb 0 (2 ^ m) ≡ masksBelow 0
-  joined-none = lt-ltb 0 (2 ^ m) (pow-pos m) ∙ every-start _
+  module _ (joined k : ℕ) (s : Joined ws m joined k) where
+    pub joined-more : k < riskWord → Joined ws m (bitOr joined (getD ws k 0)) (k + 1)
+    joined-more h =
+        let l = s .begun in
+        let place : k ≡ 3 + (k - 3) = omega arith in
+        let next : k - 3 + 1 ≡ k + 1 - 3 = omega arith in
+        record {
+          begun = omega arith;
+          so-far = omega arith;
+          below =
+              ap (λ (j : ℕ). ltb (bitOr joined (getD ws j 0)) (2 ^ m)) place ∙ or-below m joined _ ∙ every-acc (k - 3) _ _ (s .below)
+              ∙ ap (λ (i : ℕ). every i (λ j. ltb (word ws (3 + j)) (2 ^ m))) next;
+        }
 
-  pub joined-more : (k joined : ℕ) → ltb joined (2 ^ m) ≡ masksBelow k
-      → ltb (bitOr joined (getD row (begins X + 3 + k) 0)) (2 ^ m) ≡ masksBelow (k + 1)
-  unfolding wordAt
-  joined-more k joined e =
-      let place : begins X + 3 + k ≡ begins X + (3 + k) = omega arith in
-      ap (λ (j : ℕ). ltb (bitOr joined (getD row j 0)) (2 ^ m)) place ∙ or-below m joined _ ∙ every-acc k _ _ e
-
-  -- r is the answer of `is_mask`.
-  pub joined-all : (k joined : ℕ) (r : Bool) → r ≡ ltb joined (2 ^ m) → ltb joined (2 ^ m) ≡ masksBelow k → k ≤ maskCount → maskCount ≤ k
-      → r ≡ all (λ mask. ltb mask (2 ^ m)) (masks (templateIn row X))
-  unfolding every all masks templateIn templateOf
-  joined-all k joined r q e l g = q ∙ every-done maskCount _ k _ l g e
+    -- r is the answer of `is_mask`.
+    pub joined-all : (r : Bool) → riskWord ≤ k → r ≡ ltb joined (2 ^ m) → r ≡ all (λ mask. ltb mask (2 ^ m)) (masks (templateOf (word ws)))
+    unfolding every all masks templateOf
+    joined-all r h q =
+        let l = s .so-far in q ∙ every-done (riskWord - 3) _ (k - 3) _ (omega arith) (omega arith) (s .below)

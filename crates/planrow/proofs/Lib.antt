@@ -2,6 +2,7 @@ pub mod Reading
 pub mod Places
 pub mod Writing
 pub mod RoundTrip
+pub mod Parts
 pub mod Lookup
 pub mod Fits
 pub mod Stands

@@ -13,11 +13,12 @@ use Rattle.plan.specs.declared.Template.{Template}
 use Rattle.plan.specs.declared.Plan.{Plan}
 use Rattle.plan.specs.Plan.{blank, at}
 use Rattle.text.specs.Reading.{noPlan}
-use Rattle.planrow.specs.Row.{countIn, identifiersIn, wordAt, isTemplate, templateIn, isPlan, planIn, planOfRow}
-use Rattle.planrow.specs.Lookup.{planFor, templateAt}
+use Rattle.planrow.specs.Row.{countIn, identifiersIn, wordAt, templateOf, isTemplate, templateIn, isPlan, planIn, planOfRow}
+use Rattle.planrow.specs.Lookup.{partAt, word, planFor, templateAt}
+use Rattle.planrow.proofs.Parts.{part-tested, part-template}
 use Rattle.planrow.proofs.Reading.{plan-count, plan-template}
 
--- ---- the ways of a look-up; b is the answer of `is_template`
+-- ---- the ways of a look-up; ws are the words, and b is the answer of `is_template`
 
 module _ (row : List ℕ) (X : ℕ) where
   pub look-past : 64 ≤ X → blank ≡ templateAt row X
@@ -28,14 +29,16 @@ module _ (row : List ℕ) (X : ℕ) where
   unfolding templateAt
   inside h b e = rw (lt-ltb X 64 h, e)
 
-  pub look-not : (b : Bool) → X < 64 → b ≡ isTemplate (wordAt row X) → not b ≡ true → blank ≡ templateAt row X
-  look-not b h e n = sym (inside h false (sym e ∙ not-true b n))
+  pub look-not : (ws : List ℕ) (b : Bool) → X < 64 → ws ≡ partAt row X → b ≡ isTemplate (word ws) → not b ≡ true → blank ≡ templateAt row X
+  look-not ws b h w e n = sym (inside h false (sym (part-tested row X ws w) ∙ sym e ∙ not-true b n))
 
-  pub look-means : (b : Bool) → b ≡ isTemplate (wordAt row X) → not b ≡ false → isTemplate (wordAt row X) ≡ true
-  look-means b e n = sym e ∙ not-false b n
+  pub look-so : (ws : List ℕ) (b : Bool) (t : Template) → X < 64 → ws ≡ partAt row X → b ≡ isTemplate (word ws) → not b ≡ false → t ≡ templateOf (word ws)
+      → t ≡ templateAt row X
+  look-so ws b t h w e n q =
+      q ∙ part-template row X ws w ∙ sym (inside h true (sym (part-tested row X ws w) ∙ sym e ∙ not-false b n))
 
-  pub look-so : (b : Bool) (t : Template) → X < 64 → b ≡ isTemplate (wordAt row X) → not b ≡ false → t ≡ templateIn row X → t ≡ templateAt row X
-  look-so b t h e n q = q ∙ sym (inside h true (look-means b e n))
+pub look-means : (ws : List ℕ) (b : Bool) → b ≡ isTemplate (word ws) → not b ≡ false → isTemplate (word ws) ≡ true
+look-means ws b e n = sym e ∙ not-false b n
 
 -- ---- a row that means a plan
 

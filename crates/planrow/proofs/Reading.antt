@@ -4,7 +4,6 @@ use mathlib.Core.Path.{_≡_, refl, sym, ap, _∙_, subst}
 use mathlib.Core.Bool.{Bool, true, false, _&&_}
 use mathlib.Core.List.{List}
 use native.Mathlib.Omega.{arith}
-use lib.ListN.{getD}
 use lib.Dec.{eqb, leb}
 use mir.Val.{Fits}
 use mir.Syntax.{w8}
@@ -13,7 +12,8 @@ use Rattle.lists.specs.Numbers.{every}
 use Rattle.lists.proofs.Tests.{and-left, and-right}
 use Rattle.lists.proofs.Every.{every-at, every-done}
 use Rattle.plan.specs.declared.{Form.{Form, the-variants.{End, Go, Either, Both}}, Template.{Template}}
-use Rattle.planrow.specs.Row.{width, begins, countIn, wordAt, formOf, templateOf, isTemplate, templateIn, isPlan}
+use Rattle.planrow.specs.Row.{width, countIn, wordAt, formOf, templateOf, isTemplate, isPlan}
+use Rattle.planrow.specs.Lookup.{word}
 
 -- ---- a form by its number
 
@@ -57,40 +57,25 @@ is-template-ext v w e = λ i.
     leb (e 0 (omega arith) i) 3
     && (leb (e 1 (omega arith) i) 255 && (leb (e 2 (omega arith) i) 255 && leb (e 7 (omega arith) i) 1))
 
--- The code reads the first word where the words begin.
-pub word-first : (row : List ℕ) (X : ℕ) → getD row (begins X) 0 ≡ wordAt row X 0
-unfolding wordAt
-word-first row X = ap (λ (j : ℕ). getD row j 0) same
-  where
-    same : begins X ≡ begins X + 0
-    same = omega arith
-
-module _ (row : List ℕ) (X : ℕ) where
-  abbrev word : ℕ → ℕ
-  word k = getD row (begins X + k) 0
-
-  pub template-tested : (leb (getD row (begins X) 0) 3 && (leb (word 1) 255 && (leb (word 2) 255 && leb (word 7) 1))) ≡ isTemplate (wordAt row X)
-  unfolding isTemplate wordAt
-  template-tested = ap (λ (n : ℕ). leb n 3 && (leb (word 1) 255 && (leb (word 2) 255 && leb (word 7) 1))) (word-first row X)
-
+module _ (ws : List ℕ) where
   -- As the code makes it of its words.
   abbrev made : Form → Template
-  made form = record { form = form; lab = word 3; pos = word 4; neg = word 5; creates = word 6; risk = eqb (word 7) 1 }
+  made form = record { form = form; lab = word ws 3; pos = word ws 4; neg = word ws 5; creates = word ws 6; risk = eqb (word ws 7) 1 }
 
-  pub template-whole : (form : Form) → form ≡ formOf (getD row (begins X) 0) (word 1) (word 2) → made form ≡ templateIn row X
-  unfolding templateIn templateOf wordAt
-  template-whole form e = ap made (e ∙ ap (λ (n : ℕ). formOf n (word 1) (word 2)) (word-first row X))
+  pub template-whole : (form : Form) → form ≡ formOf (word ws 0) (word ws 1) (word ws 2) → made form ≡ templateOf (word ws)
+  unfolding templateOf
+  template-whole form e = ap made e
 
-  module _ (e : isTemplate (wordAt row X) ≡ true) where
-    rest : (leb (word 1) 255 && (leb (word 2) 255 && leb (word 7) 1)) ≡ true
-    unfolding isTemplate wordAt
-    rest = and-right (leb (wordAt row X 0) 3) _ e
+  module _ (e : isTemplate (word ws) ≡ true) where
+    rest : (leb (word ws 1) 255 && (leb (word ws 2) 255 && leb (word ws 7) 1)) ≡ true
+    unfolding isTemplate
+    rest = and-right (leb (word ws 0) 3) _ e
 
-    pub first-byte : Fits w8 (getD row (begins X + 1) 0)
-    first-byte = let h : word 1 ≤ 255 = leb-true _ _ (and-left (leb (word 1) 255) _ rest) in omega arith
+    pub first-byte : Fits w8 (word ws 1)
+    first-byte = let h : word ws 1 ≤ 255 = leb-true _ _ (and-left (leb (word ws 1) 255) _ rest) in omega arith
 
-    pub second-byte : Fits w8 (getD row (begins X + 2) 0)
-    second-byte = let h : word 2 ≤ 255 = leb-true _ _ (and-left (leb (word 2) 255) _ (and-right (leb (word 1) 255) _ rest)) in omega arith
+    pub second-byte : Fits w8 (word ws 2)
+    second-byte = let h : word ws 2 ≤ 255 = leb-true _ _ (and-left (leb (word ws 2) 255) _ (and-right (leb (word ws 1) 255) _ rest)) in omega arith
 
 -- ---- the tests of a row
 

@@ -4,11 +4,19 @@ use Prim.Native.Nat.{ℕ}
 use mathlib.Core.Bool.{cond, _&&_}
 use mathlib.Core.List.{List}
 use lib.Dec.{ltb}
+use lib.ListN.{getD, take, drop}
 use Rattle.plan.specs.declared.Template.{Template}
 use Rattle.plan.specs.declared.Plan.{Plan}
 use Rattle.plan.specs.Plan.{blank}
 use Rattle.text.specs.Reading.{noPlan}
-use Rattle.planrow.specs.Row.{wordAt, isTemplate, templateIn, isPlan, planIn}
+use Rattle.planrow.specs.Row.{width, begins, wordAt, isTemplate, templateIn, isPlan, planIn}
+
+-- The words of template X, as they are lent, and word k of them.
+unfoldable pub partAt : List ℕ → ℕ → List ℕ
+partAt row X = take width (drop (begins X) row)
+
+abbrev pub word : List ℕ → ℕ → ℕ
+word words k = getD words k 0
 
 -- A row that means no plan stands for the one without templates, for which the machine answers every call with 20.
 unfoldable pub planFor : List ℕ → Plan

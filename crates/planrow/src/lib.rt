@@ -4,16 +4,16 @@ use plan::Plan;
 use plan::Template;
 ghost use mathlib.Core.Path.{_≡_};
 ghost use mathlib.Core.Bool.{true, _&&_, _||_};
-ghost use Prim.Native.Nat.{ℕ, _+_, _<_, _≤_, _^_, min};
+ghost use Prim.Native.Nat.{ℕ, _+_, _<_, _≤_, _^_};
 ghost use lib.Dec.{leb, ltb};
 ghost use lib.ListN.{getD, length};
 ghost use Rattle.lists.specs.Numbers.{all};
 ghost use Rattle.lists.specs.Writes.{written};
 ghost use Rattle.plan.specs.Plan.{masks, templateFits};
 ghost use Rattle.machine.specs.Machine.{planFits};
-ghost use Rattle.planrow.specs.Row.{width, countIn, identifiersIn, wordAt, formOf, isTemplate, templateIn, isPlan};
+ghost use Rattle.planrow.specs.Row.{width, countIn, identifiersIn, formOf, templateOf, isTemplate, isPlan};
 ghost use Rattle.planrow.specs.Row.{formNumber, firstOf, secondOf, wordsOf, rowOfPlan};
-ghost use Rattle.planrow.specs.Lookup.{planFor, templateAt};
+ghost use Rattle.planrow.specs.Lookup.{word, partAt, planFor, templateAt};
 
 // The words of the header, those of a template, and all of them.
 pub const HEADER: usize = 2;
@@ -48,13 +48,23 @@ pub fn identifier_count(row: &[u32; WORDS]) -> u32
     row[1]
 }
 
-// Whether the words of template x stand for one.
-fn is_template(row: &[u32; WORDS], x: usize) -> bool
+// The words of template x.
+fn words_at<'a>(row: &'a [u32; WORDS], x: u32) -> &'a [u32]
     requires { ⌜ x < 64 ⌝ }
-    ensures { λ r. ⌜ r ≡ isTemplate (wordAt (now (row .entry)) x) ⌝ }
+    ensures { λ r. ⌜ now r ≡ partAt (now (row .entry)) x ⌝ }
+    ensures room { λ r. ⌜ length (now r) ≡ width ⌝ }
 {
-    let at = HEADER + WIDTH * x;
-    (row[at] <= 3) & ((row[at + 1] <= 255) & ((row[at + 2] <= 255) & (row[at + RISK] <= 1)))
+    let at = HEADER + WIDTH * (x as usize);
+    let all = &row[..];
+    &all[at..at + WIDTH]
+}
+
+// Whether a template's words stand for one.
+fn is_template(words: &[u32]) -> bool
+    requires { ⌜ length (now words) ≡ width ⌝ }
+    ensures { λ r. ⌜ r ≡ isTemplate (word (now (words .entry))) ⌝ }
+{
+    (words[0] <= 3) & ((words[1] <= 255) & ((words[2] <= 255) & (words[RISK] <= 1)))
 }
 
 // Whether the row means a plan.
@@ -68,7 +78,7 @@ pub fn is_plan(row: &[u32; WORDS]) -> bool
     let mut fits = true;
     let mut i: u32 = 0;
     while i < count {
-        fits = fits & is_template(row, i as usize);
+        fits = fits & is_template(words_at(row, i));
         i += 1;
     }
     fits
@@ -89,20 +99,19 @@ fn form_of(number: u32, y: u8, z: u8) -> Form
     Form::Both(y, z)
 }
 
-// The template that the words of template x stand for.
-fn template_in(row: &[u32; WORDS], x: usize) -> Template
-    requires { ⌜ (x < 64) × (isTemplate (wordAt (now row) x) ≡ true) ⌝ }
-    ensures { λ r. ⌜ r ≡ templateIn (now (row .entry)) x ⌝ }
+// The template that its words stand for.
+fn template_in(words: &[u32]) -> Template
+    requires { ⌜ (length (now words) ≡ width) × (isTemplate (word (now words)) ≡ true) ⌝ }
+    ensures { λ r. ⌜ r ≡ templateOf (word (now (words .entry))) ⌝ }
 {
-    let at = HEADER + WIDTH * x;
-    let form = form_of(row[at], row[at + 1] as u8, row[at + 2] as u8);
+    let form = form_of(words[0], words[1] as u8, words[2] as u8);
     Template {
         form: form,
-        lab: row[at + 3],
-        pos: row[at + 4],
-        neg: row[at + 5],
-        creates: row[at + 6],
-        risk: row[at + RISK] == 1,
+        lab: words[3],
+        pos: words[4],
+        neg: words[5],
+        creates: words[6],
+        risk: words[RISK] == 1,
     }
 }
 
@@ -110,14 +119,14 @@ fn template_in(row: &[u32; WORDS], x: usize) -> Template
 pub fn template_at(row: &[u32; WORDS], x: u32) -> Template
     ensures { λ r. ⌜ r ≡ templateAt (now (row .entry)) x ⌝ }
 {
-    let at = x as usize;
-    if 64 <= at {
+    if 64 <= x {
         return plan::blank_template();
     }
-    if !is_template(row, at) {
+    let words = words_at(row, x);
+    if !is_template(words) {
         return plan::blank_template();
     }
-    template_in(row, at)
+    template_in(words)
 }
 
 // Document 01, 20: "a plan's successor not below N"; the word of one that the form lacks need only be a byte.
@@ -139,32 +148,29 @@ fn is_mask(mask: u32, m: u32) -> bool
     (mask as u64) < (1u64 << m)
 }
 
-// Whether the masks of template x are over m identifiers: joined they are compared once.
-fn are_masks(row: &[u32; WORDS], x: usize, m: u32) -> bool
-    requires { ⌜ (x < 64) × (m ≤ 32) ⌝ }
-    ensures { λ r. ⌜ r ≡ all (λ mask. ltb mask (2 ^ m)) (masks (templateIn (now (row .entry)) x)) ⌝ }
+// Whether a template's masks are over m identifiers: joined they are compared once.
+fn are_masks(words: &[u32], m: u32) -> bool
+    requires { ⌜ (length (now words) ≡ width) × (m ≤ 32) ⌝ }
+    ensures { λ r. ⌜ r ≡ all (λ mask. ltb mask (2 ^ m)) (masks (templateOf (word (now (words .entry))))) ⌝ }
 {
-    let first = HEADER + WIDTH * x + MASK;
     let mut joined: u32 = 0;
-    let mut k: usize = 0;
-    while k < plan::MASKS {
-        joined = joined | row[first + k];
+    let mut k: usize = MASK;
+    while k < RISK {
+        joined = joined | words[k];
         k += 1;
     }
     is_mask(joined, m)
 }
 
-// Whether the words of template x stand for one that fits n templates and m identifiers.
-fn template_fits(row: &[u32; WORDS], x: usize, n: u32, m: u32) -> bool
-    requires { ⌜ (x < 64) × (n ≤ 64) × (m ≤ 32) ⌝ }
-    ensures { λ r. ⌜ r ≡ (isTemplate (wordAt (now (row .entry)) x) && templateFits n m (templateIn (now (row .entry)) x)) ⌝ }
+// Whether a template's words stand for one that fits n templates and m identifiers.
+fn template_fits(words: &[u32], n: u32, m: u32) -> bool
+    requires { ⌜ (length (now words) ≡ width) × (n ≤ 64) × (m ≤ 32) ⌝ }
+    ensures { λ r. ⌜ r ≡ (isTemplate (word (now (words .entry))) && templateFits n m (templateOf (word (now (words .entry))))) ⌝ }
 {
-    let at = HEADER + WIDTH * x;
-    let form = row[at];
+    let form = words[0];
     (form <= 3)
-        & (successor_fits(row[at + 1], form < 1, n)
-            & (successor_fits(row[at + 2], form < 2, n)
-                & ((row[at + RISK] <= 1) & are_masks(row, x, m))))
+        & (successor_fits(words[1], form < 1, n)
+            & (successor_fits(words[2], form < 2, n) & ((words[RISK] <= 1) & are_masks(words, m))))
 }
 
 // Document 01, 20: "a count [..] passed", and the plan's part of the rest. A row that means no plan has none that fits.
@@ -174,19 +180,13 @@ pub fn is_fitting(row: &[u32; WORDS]) -> bool
 {
     let n = template_count(row);
     let m = identifier_count(row);
-    if n < 1 {
-        return false;
-    }
-    if 64 < n {
-        return false;
-    }
-    if 32 < m {
+    if (n < 1) | ((64 < n) | (32 < m)) {
         return false;
     }
     let mut fits = true;
     let mut i: u32 = 0;
     while i < n {
-        fits = fits & template_fits(row, i as usize, n, m);
+        fits = fits & template_fits(words_at(row, i), n, m);
         i += 1;
     }
     fits
@@ -237,13 +237,6 @@ fn words_of(t: Template) -> [u32; WIDTH]
     ]
 }
 
-// The first word: N, and 65 where there are more than 64 templates.
-fn count_word(n: usize) -> u32
-    ensures { λ r. ⌜ r ≡ min n 65 ⌝ }
-{
-    if n < 65 { n as u32 } else { 65 }
-}
-
 // Stores a template's words from a place on.
 fn put_words(row: &mut [u32], at: usize, words: [u32; WIDTH])
     requires { ⌜ at + width ≤ length (now row) ⌝ }
@@ -256,12 +249,12 @@ fn put_words(row: &mut [u32], at: usize, words: [u32; WIDTH])
     }
 }
 
-// The row of a plan.
+// The row of a plan. The first word is N, and 65 where there are more than 64 templates.
 pub fn row_of(plan: Plan) -> [u32; WORDS]
     ensures { λ r. ⌜ r ≡ rowOfPlan plan ⌝ }
 {
     let mut out = [0u32; WORDS];
-    out[0] = count_word(plan.count);
+    out[0] = plan::capped(plan.count, 65) as u32;
     out[1] = plan.identifiers;
     let n = plan::capped(plan.count, 64) as usize;
     let mut i: usize = 0;

@@ -12,8 +12,11 @@ Inv-loop plan row₀ n i₀ row i = Writing plan n row i
 abbrev μ-loop : tie.MeasureT-loop
 μ-loop plan row₀ n i₀ row i = n - i
 
-count-word-requires : tie.Need-count-word-requires Inv-loop μ-loop
-count-word-requires c κs = search needs
+capped-requires : tie.Need-capped-requires Inv-loop μ-loop
+capped-requires c κs = search needs
+
+cast-out : tie.Need-cast-out Inv-loop μ-loop
+cast-out c = search needs
 
 array-write-out : tie.Need-array-write-out Inv-loop μ-loop
 array-write-out c = search needs
@@ -21,8 +24,8 @@ array-write-out c = search needs
 array-write-out-2 : tie.Need-array-write-out-2 Inv-loop μ-loop
 array-write-out-2 c = search needs
 
-capped-requires : tie.Need-capped-requires Inv-loop μ-loop
-capped-requires c κs = search needs
+capped-requires-2 : tie.Need-capped-requires-2 Inv-loop μ-loop
+capped-requires-2 c κs = search needs
 
 cast-n : tie.Need-cast-n Inv-loop μ-loop
 cast-n c = search needs
@@ -70,10 +73,11 @@ row-of-spec =
     (tie.spec
     Inv-loop
     μ-loop
-    count-word-requires
+    capped-requires
+    cast-out
     array-write-out
     array-write-out-2
-    capped-requires
+    capped-requires-2
     cast-n
     loop-holds
     mul-t

@@ -11,6 +11,9 @@ blank-template-requires c κs = search needs
 returns : tie.Need-returns
 returns c = c .blank-template .ensures ∙ search look-past
 
+words-at-requires : tie.Need-words-at-requires
+words-at-requires c κs = search needs
+
 is-template-requires : tie.Need-is-template-requires
 is-template-requires c κs = search needs
 
@@ -32,6 +35,7 @@ template-at-spec =
     (tie.spec
     blank-template-requires
     returns
+    words-at-requires
     is-template-requires
     blank-template-requires-2
     returns-2
