@@ -7,8 +7,22 @@ ghost use mathlib.Core.Path.{_≡_};
 ghost use Prim.Native.Nat.{_<_};
 ghost use Rattle.lists.specs.Numbers.{any};
 ghost use Rattle.plan.specs.Plan.{at, successors};
-ghost use Rattle.route.specs.Search.{widened, extended, targets, crosses, branchesCross, forkCrosses, leads, anyIn, sharesOver, splitsOver};
+ghost use Rattle.route.specs.Search.{only, meet, widened, extended, targets, crosses, branchesCross, forkCrosses, leads, anyIn, sharesOver, splitsOver};
 ghost use Rattle.route.specs.Layout.{laidOut};
+
+// The template x alone.
+fn only(x: u8) -> u64
+    ensures { λ r. ⌜ r ≡ only x ⌝ }
+{
+    route::include(0, x, true)
+}
+
+// Whether some template is in both masks.
+fn meet(m: u64, n: u64) -> bool
+    ensures { λ r. ⌜ r ≡ meet m n ⌝ }
+{
+    m & n != 0
+}
 
 // The target with template x as one more way, where it is wanted.
 fn widen(to: Target, x: u8, wanted: bool) -> Target
@@ -79,8 +93,8 @@ fn crosses(to: Targets, direct: bool, passing: bool, m: u64, n: u64) -> bool
     let sink = to.sink;
     let at_source = mask::contains_u64(m, source.place);
     let at_sink = mask::contains_u64(n, sink.place);
-    let by_source = route::meet(m, source.ways);
-    let by_sink = route::meet(n, sink.ways);
+    let by_source = meet(m, source.ways);
+    let by_sink = meet(n, sink.ways);
     (direct & (at_source & at_sink)) | (passing & ((by_source & at_sink) | (at_source & by_sink)))
 }
 
@@ -163,7 +177,7 @@ fn leads<'a>(
     ensures { λ r. ⌜ r ≡ leads (laidOut (now (first .entry)) (now (second .entry))) barred to direct y ⌝ }
 {
     let m = route::search_from(first, second, y, barred);
-    (direct & mask::contains_u64(m, to.place)) | route::meet(m, to.ways)
+    (direct & mask::contains_u64(m, to.place)) | meet(m, to.ways)
 }
 
 // Whether routes from some successor of template x lead to the sink. Every successor is tried.
@@ -200,7 +214,7 @@ pub fn shares_tag<'a>(
 ) -> bool
     ensures { λ r. ⌜ r ≡ sharesOver (laidOut (now (first .entry)) (now (second .entry))) forks creators source sink anc ⌝ }
 {
-    let way = route::only(anc);
+    let way = only(anc);
     let root = route::search_from(first, second, 0, 0);
     let lacking = route::search_from(first, second, 0, way);
     let to = find_targets(first, second, creators, way, source, sink);
@@ -229,7 +243,7 @@ pub fn splits_tag<'a>(
 ) -> bool
     ensures { λ r. ⌜ r ≡ splitsOver (laidOut (now (first .entry)) (now (second .entry))) forks creators source sink anc ⌝ }
 {
-    let barred = route::only(anc);
+    let barred = only(anc);
     let root = route::search_from(first, second, 0, 0);
     let under = route::search_from(first, second, anc, 0);
     let to = find_targets(first, second, barred, creators, source, sink);

@@ -3,7 +3,7 @@
 use plan::Form;
 use plan::Plan;
 ghost use mathlib.Core.Path.{_≡_};
-ghost use Rattle.route.specs.Search.{inMask, including, collect, only, meet, isOpen, enter, reach};
+ghost use Rattle.route.specs.Search.{inMask, including, collect, isOpen, enter, reach};
 ghost use Rattle.route.specs.Layout.{firstOf, secondOf, isFork, madeBy, allForks, layoutOf, laidOut};
 
 // A plan laid out: the successors of each template, the masks of what each creates, and the forks.
@@ -45,20 +45,6 @@ pub fn include(m: u64, x: u8, wanted: bool) -> u64
         return mask::insert_u64(m, x);
     }
     m
-}
-
-// The template x alone.
-pub fn only(x: u8) -> u64
-    ensures { λ r. ⌜ r ≡ only x ⌝ }
-{
-    include(0, x, true)
-}
-
-// Whether some template is in both masks.
-pub fn meet(m: u64, n: u64) -> bool
-    ensures { λ r. ⌜ r ≡ meet m n ⌝ }
-{
-    m & n != 0
 }
 
 // The first successor, the second one, and whether they are branches.

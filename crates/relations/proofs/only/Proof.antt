@@ -1,8 +1,8 @@
--- `route::only` is `including` for the empty mask.
+-- `relations::only` is `including` for the empty mask.
 use borrow.Author.Needs.{needs}
 use Rattle.route.proofs.Steps.{only-is}
-use Rattle.route.proofs.only.Statement.{statement}
-use Rattle.route.proofs.only.Tie as tie
+use Rattle.relations.proofs.only.Statement.{statement}
+use Rattle.relations.proofs.only.Tie as tie
 
 include-requires : tie.Need-include-requires
 include-requires c κs = search needs
