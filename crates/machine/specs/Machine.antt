@@ -1,5 +1,5 @@
 -- The monitor's machine (document 01, "The monitor's machine").
--- Believed: everything here. Proved against it: crates planrow, population, delivery, admission, spawning, stepping, labelling, dispatch and monitor.
+-- Believed: everything here. Proved against it: the crates from planrow to monitor.
 use Prim.Native.Nat.{ℕ, suc, _+_, _-_, _^_}
 use mathlib.Core.{Bool.{Bool, true, false, not, cond, _&&_, _||_}, List.{List, [], _∷_, _++_, map}}
 use mathlib.Core.Option.{Option, none, some}

@@ -1,12 +1,10 @@
 -- A template's words as the code lends them, a part of the row: what is read of the part is read of the row.
 use Prim.Native.Nat.{ℕ, _+_, _-_, _<_}
 use mathlib.Core.Path.{_≡_, ap, _∙_}
-use mathlib.Core.Bool.{Bool, _&&_}
 use mathlib.Core.List.{List}
 use native.Mathlib.Omega.{arith}
 use lib.ListN.{length, take, drop, length-drop}
 use lib.Seq.{getD-take, getD-drop, length-take-le}
-use Rattle.plan.specs.declared.Template.{Template}
 use Rattle.planrow.specs.Row.{width, words, begins, wordAt, templateOf, isTemplate, templateIn}
 use Rattle.planrow.specs.Lookup.{partAt, word}
 use Rattle.planrow.proofs.Reading.{template-ext, is-template-ext}

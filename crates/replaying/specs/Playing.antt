@@ -12,7 +12,8 @@ use Rattle.machine.specs.Machine.{Machine}
 use Rattle.machine.specs.State.{machineFrom, cellsOf}
 use Rattle.playback.specs.Playback.{Played}
 
--- The machine of a state, over the plan that its row stands for: of a plan that was read, that very plan.
+-- The machine of a state, over the plan that its row stands for: of a plan that was read, that very plan. A plan of more than
+-- 64 templates has no row, so of such a state this says what a run over no plan leaves, and nothing of the tags.
 abbrev pub machineOn : Plan → State → Machine
 machineOn plan s = machineFrom (planFor (rowOfPlan plan)) (s .next) (s .live) (cellsOf s)
 

@@ -1,27 +1,18 @@
 -- The small steps of the code, each as the code meets it: what its calls gave are variables, and what they ensure are
 -- premises.
-use Prim.Native.Nat.{ℕ, _+_, _^_, _<_, _≤_}
+use Prim.Native.Nat.{ℕ, _+_, _≤_}
 use mathlib.Core.Path.{_≡_, refl, sym, ap, ap₂, _∙_}
-use mathlib.Core.Logic.{⊎-elim}
 use mathlib.Core.List.{List}
 use mathlib.Core.Bool.{Bool, true, false, not, cond, _&&_}
-use native.Mathlib.Nat.{lt-of-le-of-lt}
 use native.Mathlib.Numerals.{add-one}
 use native.Mathlib.Omega.{arith}
-use lib.Dec.{ltb, eqb}
-use lib.Bits.{bitAnd, and-le-l}
+use lib.Dec.{ltb}
 use lib.ListN.{getD}
-use borrow.Author.Tests.{eqb-true, eq-eqb, not-true}
 use Rattle.lists.specs.Joins.{both}
-use Rattle.lists.proofs.Tests.{and-of, same-test, passes-fails, fails, bool?}
-use Rattle.lists.proofs.Every.{any-at}
 use Rattle.mask.specs.Mask.{has, plus}
 use Rattle.mask.specs.Sets.{plusBelow}
-use Rattle.mask.proofs.Items.{has-and, has-none}
-use Rattle.mask.proofs.Width.{empty}
-use Rattle.route.specs.Search.{inMask, ifSo, including, collect, only, meet, isOpen, enter, reach}
+use Rattle.route.specs.Search.{inMask, ifSo, including, collect, isOpen, enter, reach}
 use Rattle.route.specs.Layout.{madeBy, laidOut}
-use Rattle.route.proofs.Sets.{meet-from}
 
 -- ---- masks
 
@@ -41,23 +32,6 @@ not-included m x wanted e = go (ltb x 64) ∙ ap (including m x) (sym e)
     go : (b : Bool) → m ≡ ifSo (both b false) m (λ _. plus m x)
     go true = refl
     go false = refl
-
-pub only-is : (x r : ℕ) → r ≡ including 0 x true → r ≡ only x
-unfolding only
-only-is x r e = e
-
-pub meet-is : (m n : ℕ) → m < 2 ^ 64 → not (eqb (bitAnd m n) 0) ≡ meet m n
-unfolding meet both
-meet-is m n l = same-test (not (eqb (bitAnd m n) 0)) (meet m n)
-    (λ e. ⊎-elim (λ h. h)
-    (λ f. absurd (passes-fails (eqb (bitAnd m n) 0)
-    (eq-eqb (bitAnd m n) 0 (empty 64 (bitAnd m n) (lt-of-le-of-lt (and-le-l m n) l) (λ i h. has-and i m n ∙ any-at 64 (λ X. both (has X m) (has X n)) f i h)))
-    (not-true (eqb (bitAnd m n) 0) e)))
-    (bool? (meet m n)))
-    (λ e. let w = meet-from m n e in
-    ap not (fails (eqb (bitAnd m n) 0) (λ z. passes-fails (has (w .0) (bitAnd m n))
-    (has-and (w .0) m n ∙ and-of (has (w .0) m) (has (w .0) n) (w .2) (w .3))
-    (ap (has (w .0)) (eqb-true (bitAnd m n) 0 z) ∙ has-none (w .0)))))
 
 -- ---- what is open
 

@@ -1,6 +1,6 @@
 -- Routes over a plan, and whether a process at S and one at K can come to wear the same tag of identifier t, or different
 -- ones: document 01's terms Joined and Parted ("Routes").
--- Believed: everything here. Proved against it: crates route and relations.
+-- Believed: everything here. Proved against it: the laws of crate route; crate relations makes the searches.
 use Prim.Native.Nat.{ℕ}
 use mathlib.Core.{Path.{_≡_}, Logic.{_⊎_}, Bool.{Bool, true, false}, List.{List, [], _∷_}}
 use lib.Dec.{eqb}

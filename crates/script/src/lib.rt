@@ -178,3 +178,10 @@ pub fn word_room() -> [u32; 24576]
 {
     [0; 24576]
 }
+
+// Room for a text of calls: more than it may have bytes, so that a text that is too long is seen to be.
+pub fn text_room() -> [u8; 131072]
+    ensures { λ r. ⌜ 131072 ≡ length r ⌝ }
+{
+    [0; 131072]
+}

@@ -1,5 +1,5 @@
 -- `relations::meet`: two masks have a template in common exactly where their intersection is not 0.
-use Rattle.route.proofs.Steps.{meet-is}
+use Rattle.relations.proofs.Steps.{meet-is}
 use Rattle.relations.proofs.meet.Statement.{statement}
 use Rattle.relations.proofs.meet.Tie as tie
 

@@ -1,6 +1,6 @@
 -- `relations::only` is `including` for the empty mask.
 use borrow.Author.Needs.{needs}
-use Rattle.route.proofs.Steps.{only-is}
+use Rattle.relations.proofs.Steps.{only-is}
 use Rattle.relations.proofs.only.Statement.{statement}
 use Rattle.relations.proofs.only.Tie as tie
 
