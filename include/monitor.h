@@ -6,8 +6,9 @@
  * own byte order. No function keeps state between calls, so calls on different memory may run at the same time; two
  * calls on the same memory may not.
  *
- * Each function is proved to do what is said here whatever the memory holds (crates/embed): it reads and writes
- * nothing else, it ends, and no value of any word makes it go wrong.
+ * Each function of the library is proved to do what is said here whatever the memory holds (crates/embed): it reads and
+ * writes nothing else, it ends, and no value of any word makes it go wrong. monitor_step, send, raise and lower are inline
+ * functions of this header: monitor_call with their kind.
  *
  * Stack, as measured on x86-64 with plans of up to 64 templates (it is not part of what is proved): judge and locate
  * need less than 18 KB, start less than 46 KB, replay less than 65 KB, each other call less than 1 KB.
@@ -73,8 +74,8 @@ enum monitor_answer {
     MONITOR_NOT_ALLOWED = 29    /* raise, lower: the identifier is not in pos, or not in neg                          */
 };
 
-/* The first word of a call in a list; any other number is a lower. */
-enum monitor_call { MONITOR_STEP = 0, MONITOR_SEND = 1, MONITOR_RAISE = 2, MONITOR_LOWER = 3 };
+/* The kind of a call, also its first word in a list; any other number is a lower. */
+enum monitor_kind { MONITOR_STEP = 0, MONITOR_SEND = 1, MONITOR_RAISE = 2, MONITOR_LOWER = 3 };
 
 /* Judges the two texts. */
 void monitor_judge(const uint8_t *plan, size_t plan_len, const uint8_t *policy, size_t policy_len,
@@ -95,28 +96,48 @@ void monitor_start(const uint8_t *plan, size_t plan_len, const uint8_t *policy, 
                    uint32_t templates[MONITOR_PROCESSES], uint32_t labels[MONITOR_PROCESSES],
                    uint32_t tags[MONITOR_TAGS]);
 
-/* The process ends; `go` and `either` make one child, `both` two, `end` none. branch chooses for `either`. */
-uint32_t monitor_step(const uint32_t row[MONITOR_ROW_WORDS], uint32_t place[MONITOR_PLACE_WORDS],
+/* One call: its kind and its two numbers, those of the functions below. A send leaves the memory as it was; a raise and a
+ * lower change only labels.                                                                                           */
+uint32_t monitor_call(const uint32_t row[MONITOR_ROW_WORDS], uint32_t place[MONITOR_PLACE_WORDS],
                       uint32_t serials[MONITOR_PROCESSES], uint32_t templates[MONITOR_PROCESSES],
-                      uint32_t labels[MONITOR_PROCESSES], uint32_t tags[MONITOR_TAGS], uint32_t serial,
-                      uint32_t branch);
+                      uint32_t labels[MONITOR_PROCESSES], uint32_t tags[MONITOR_TAGS], uint32_t kind, uint32_t x,
+                      uint32_t y);
+
+/* The process ends; `go` and `either` make one child, `both` two, `end` none. branch chooses for `either`. */
+static inline uint32_t monitor_step(const uint32_t row[MONITOR_ROW_WORDS], uint32_t place[MONITOR_PLACE_WORDS],
+                                    uint32_t serials[MONITOR_PROCESSES], uint32_t templates[MONITOR_PROCESSES],
+                                    uint32_t labels[MONITOR_PROCESSES], uint32_t tags[MONITOR_TAGS], uint32_t serial,
+                                    uint32_t branch)
+{
+    return monitor_call(row, place, serials, templates, labels, tags, MONITOR_STEP, serial, branch);
+}
 
 /* Whether a message may pass. The memory is left as it was. */
-uint32_t monitor_send(const uint32_t row[MONITOR_ROW_WORDS], uint32_t place[MONITOR_PLACE_WORDS],
-                      uint32_t serials[MONITOR_PROCESSES], uint32_t templates[MONITOR_PROCESSES],
-                      uint32_t labels[MONITOR_PROCESSES], uint32_t tags[MONITOR_TAGS], uint32_t from, uint32_t to);
+static inline uint32_t monitor_send(const uint32_t row[MONITOR_ROW_WORDS], uint32_t place[MONITOR_PLACE_WORDS],
+                                    uint32_t serials[MONITOR_PROCESSES], uint32_t templates[MONITOR_PROCESSES],
+                                    uint32_t labels[MONITOR_PROCESSES], uint32_t tags[MONITOR_TAGS], uint32_t from,
+                                    uint32_t to)
+{
+    return monitor_call(row, place, serials, templates, labels, tags, MONITOR_SEND, from, to);
+}
 
 /* The process's label has that identifier from now on. Only labels changes. */
-uint32_t monitor_raise(const uint32_t row[MONITOR_ROW_WORDS], uint32_t place[MONITOR_PLACE_WORDS],
-                       uint32_t serials[MONITOR_PROCESSES], uint32_t templates[MONITOR_PROCESSES],
-                       uint32_t labels[MONITOR_PROCESSES], uint32_t tags[MONITOR_TAGS], uint32_t serial,
-                       uint32_t identifier);
+static inline uint32_t monitor_raise(const uint32_t row[MONITOR_ROW_WORDS], uint32_t place[MONITOR_PLACE_WORDS],
+                                     uint32_t serials[MONITOR_PROCESSES], uint32_t templates[MONITOR_PROCESSES],
+                                     uint32_t labels[MONITOR_PROCESSES], uint32_t tags[MONITOR_TAGS], uint32_t serial,
+                                     uint32_t identifier)
+{
+    return monitor_call(row, place, serials, templates, labels, tags, MONITOR_RAISE, serial, identifier);
+}
 
 /* The process's label lacks that identifier from now on. Only labels changes. */
-uint32_t monitor_lower(const uint32_t row[MONITOR_ROW_WORDS], uint32_t place[MONITOR_PLACE_WORDS],
-                       uint32_t serials[MONITOR_PROCESSES], uint32_t templates[MONITOR_PROCESSES],
-                       uint32_t labels[MONITOR_PROCESSES], uint32_t tags[MONITOR_TAGS], uint32_t serial,
-                       uint32_t identifier);
+static inline uint32_t monitor_lower(const uint32_t row[MONITOR_ROW_WORDS], uint32_t place[MONITOR_PLACE_WORDS],
+                                     uint32_t serials[MONITOR_PROCESSES], uint32_t templates[MONITOR_PROCESSES],
+                                     uint32_t labels[MONITOR_PROCESSES], uint32_t tags[MONITOR_TAGS], uint32_t serial,
+                                     uint32_t identifier)
+{
+    return monitor_call(row, place, serials, templates, labels, tags, MONITOR_LOWER, serial, identifier);
+}
 
 /* Runs a list of calls, three words each (kind, then its two numbers), through the state, and writes one answer to a
  * byte. It plays min(words / 3, places) calls and returns that number; a refused call changes nothing, and the list goes

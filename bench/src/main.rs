@@ -11,7 +11,7 @@ mod monitor;
 mod parts;
 mod tuned;
 
-const LEGEND: &str = "core: monitor_run on lent arrays; singly: monitor_step and so on. (b) Rust over `&mut State`; (c) \
+const LEGEND: &str = "core: monitor_run on lent arrays; singly: monitor_call. (b) Rust over `&mut State`; (c) \
 the same hand-tuned: rows of M tags, no early exit. Steps: live is one less two times in three; mixed lists: one more \
 one time in three.";
 

@@ -102,7 +102,7 @@ impl Answer {
     }
 }
 
-/// A call in a list.
+/// A call.
 #[derive(Clone, Copy, Debug, PartialEq, Eq)]
 pub enum Call {
     Step { serial: u32, branch: u32 },
@@ -269,34 +269,37 @@ impl Monitor {
         (Verdict::from_words(words), m)
     }
 
+    /// One call.
+    pub fn call(&mut self, call: Call) -> Answer {
+        let [kind, x, y] = call.words();
+        // SAFETY: the arrays are fields of one box, apart from each other.
+        answer(unsafe { on_box!(monitor_call, self, kind, x, y) })
+    }
+
     /// The process of that serial goes, and its children come.
     pub fn step(&mut self, serial: u32, branch: u32) -> Answer {
-        // SAFETY: the arrays are fields of one box, apart from each other.
-        answer(unsafe { on_box!(monitor_step, self, serial, branch) })
+        self.call(Call::Step { serial, branch })
     }
 
     /// Whether a message may pass. The box is left as it was.
     pub fn send(&mut self, from: u32, to: u32) -> Answer {
-        // SAFETY: as in `step`.
-        answer(unsafe { on_box!(monitor_send, self, from, to) })
+        self.call(Call::Send { from, to })
     }
 
     /// The process's label has that identifier from now on.
     pub fn raise(&mut self, serial: u32, identifier: u32) -> Answer {
-        // SAFETY: as in `step`.
-        answer(unsafe { on_box!(monitor_raise, self, serial, identifier) })
+        self.call(Call::Raise { serial, identifier })
     }
 
     /// The process's label lacks that identifier from now on.
     pub fn lower(&mut self, serial: u32, identifier: u32) -> Answer {
-        // SAFETY: as in `step`.
-        answer(unsafe { on_box!(monitor_lower, self, serial, identifier) })
+        self.call(Call::Lower { serial, identifier })
     }
 
     /// Runs the words of calls, three to a call, and writes one answer's code to a byte; plays as many calls as there are
     /// words and places for, and hands back that number.
     pub fn run_into(&mut self, calls: &[u32], answers: &mut [u8]) -> usize {
-        // SAFETY: as in `step`; `answers` is lent alone, and no more than its length is written.
+        // SAFETY: as in `call`; `answers` is lent alone, and no more than its length is written.
         unsafe {
             on_box!(
                 monitor_run,

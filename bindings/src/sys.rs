@@ -62,8 +62,5 @@ macro_rules! on_state {
     };
 }
 
-on_state!(monitor_step, (serial: u32, branch: u32) -> u32);
-on_state!(monitor_send, (from: u32, to: u32) -> u32);
-on_state!(monitor_raise, (serial: u32, identifier: u32) -> u32);
-on_state!(monitor_lower, (serial: u32, identifier: u32) -> u32);
+on_state!(monitor_call, (kind: u32, x: u32, y: u32) -> u32);
 on_state!(monitor_run, (calls: *const u32, words: usize, answers: *mut u8, places: usize) -> usize);

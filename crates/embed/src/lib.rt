@@ -2,7 +2,7 @@
 // to a C program stands in include/monitor.h.
 use planrow::WORDS;
 ghost use mathlib.Core.Path.{_≡_};
-ghost use Rattle.machine.specs.Machine.{step, send, raise, lower};
+ghost use Rattle.machine.specs.State.{callOf};
 ghost use Rattle.planrow.specs.Row.{planOfRow};
 ghost use Rattle.rules.specs.Judge.{judge};
 ghost use Rattle.rules.specs.Show.{locate};
@@ -62,124 +62,25 @@ pub extern "C" fn monitor_start<'a>(
     *tags = g;
 }
 
-// Document 01, Step.
+// One call: its kind (0 step, 1 send, 2 raise, any other number lower) and its two numbers.
 #[no_mangle]
-pub extern "C" fn monitor_step<'a>(
+pub extern "C" fn monitor_call<'a>(
     row: &'a [u32; WORDS],
     place: &'a mut [u32; 2],
     serials: &'a mut [u32; 128],
     templates: &'a mut [u32; 128],
     labels: &'a mut [u32; 128],
     tags: &'a mut [u32; 4096],
-    serial: u32,
-    branch: u32,
+    kind: u32,
+    x: u32,
+    y: u32,
 ) -> u32
     ensures { λ r.
         let h = held (now (place .entry)) (now (serials .entry)) (now (templates .entry)) (now (labels .entry)) (now (tags .entry)) in
         let k = held (now (place .exit)) (now (serials .exit)) (now (templates .exit)) (now (labels .exit)) (now (tags .exit)) in
-        ⌜ Answers (planOfRow (now (row .entry))) (step serial branch) h r k ⌝ }
+        ⌜ Answers (planOfRow (now (row .entry))) (callOf kind x y) h r k ⌝ }
 {
-    memory::call(
-        row,
-        place,
-        serials,
-        templates,
-        labels,
-        tags,
-        dispatch::STEP,
-        serial,
-        branch,
-    )
-}
-
-// Document 01, Send. "The state stays."
-#[no_mangle]
-pub extern "C" fn monitor_send<'a>(
-    row: &'a [u32; WORDS],
-    place: &'a mut [u32; 2],
-    serials: &'a mut [u32; 128],
-    templates: &'a mut [u32; 128],
-    labels: &'a mut [u32; 128],
-    tags: &'a mut [u32; 4096],
-    from: u32,
-    to: u32,
-) -> u32
-    ensures { λ r.
-        let h = held (now (place .entry)) (now (serials .entry)) (now (templates .entry)) (now (labels .entry)) (now (tags .entry)) in
-        let k = held (now (place .exit)) (now (serials .exit)) (now (templates .exit)) (now (labels .exit)) (now (tags .exit)) in
-        ⌜ Answers (planOfRow (now (row .entry))) (send from to) h r k ⌝ }
-{
-    memory::call(
-        row,
-        place,
-        serials,
-        templates,
-        labels,
-        tags,
-        dispatch::SEND,
-        from,
-        to,
-    )
-}
-
-// Document 01, Raise. Only the labels change.
-#[no_mangle]
-pub extern "C" fn monitor_raise<'a>(
-    row: &'a [u32; WORDS],
-    place: &'a mut [u32; 2],
-    serials: &'a mut [u32; 128],
-    templates: &'a mut [u32; 128],
-    labels: &'a mut [u32; 128],
-    tags: &'a mut [u32; 4096],
-    serial: u32,
-    identifier: u32,
-) -> u32
-    ensures { λ r.
-        let h = held (now (place .entry)) (now (serials .entry)) (now (templates .entry)) (now (labels .entry)) (now (tags .entry)) in
-        let k = held (now (place .exit)) (now (serials .exit)) (now (templates .exit)) (now (labels .exit)) (now (tags .exit)) in
-        ⌜ Answers (planOfRow (now (row .entry))) (raise serial identifier) h r k ⌝ }
-{
-    memory::call(
-        row,
-        place,
-        serials,
-        templates,
-        labels,
-        tags,
-        dispatch::RAISE,
-        serial,
-        identifier,
-    )
-}
-
-// Document 01, Lower. Only the labels change.
-#[no_mangle]
-pub extern "C" fn monitor_lower<'a>(
-    row: &'a [u32; WORDS],
-    place: &'a mut [u32; 2],
-    serials: &'a mut [u32; 128],
-    templates: &'a mut [u32; 128],
-    labels: &'a mut [u32; 128],
-    tags: &'a mut [u32; 4096],
-    serial: u32,
-    identifier: u32,
-) -> u32
-    ensures { λ r.
-        let h = held (now (place .entry)) (now (serials .entry)) (now (templates .entry)) (now (labels .entry)) (now (tags .entry)) in
-        let k = held (now (place .exit)) (now (serials .exit)) (now (templates .exit)) (now (labels .exit)) (now (tags .exit)) in
-        ⌜ Answers (planOfRow (now (row .entry))) (lower serial identifier) h r k ⌝ }
-{
-    memory::call(
-        row,
-        place,
-        serials,
-        templates,
-        labels,
-        tags,
-        dispatch::LOWER,
-        serial,
-        identifier,
-    )
+    memory::call(row, place, serials, templates, labels, tags, kind, x, y)
 }
 
 // A list of calls, three words each, run through the lent state; as many as there are words and places for.
