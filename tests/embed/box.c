@@ -160,6 +160,26 @@ static void case_a(void) {
     expect(b.place[0] == 8 && b.place[1] == 2 && b.serials[0] == 6 && b.serials[1] == 7, "6 and 7 live");
 }
 
+/* The four inline functions are monitor_call with their kinds: a raise and a lower of the reader 4 told apart. */
+static void moves(void) {
+    enum { READER = 2 + 8 * 3, POS = READER + 4, NEG = READER + 5 };
+    struct box b;
+    run_of_a(&b);
+    b.row[POS] = 1;
+    expect(lower(&b, 4, 0) == MONITOR_NOT_ALLOWED, "in pos alone: lower is 29");
+    b.labels[0] = 0;
+    expect(raise(&b, 4, 0) == MONITOR_DONE && b.labels[0] == 1, "and raise is done");
+    run_of_a(&b);
+    b.row[NEG] = 1;
+    expect(raise(&b, 4, 0) == MONITOR_NOT_ALLOWED, "in neg alone: raise is 29");
+    expect(lower(&b, 4, 0) == MONITOR_DONE && b.labels[0] == 0, "and lower is done");
+    run_of_a(&b);
+    b.row[NEG] = 1;
+    expect(monitor_call(b.row, b.place, b.serials, b.templates, b.labels, b.tags, 4, 4, 0) == MONITOR_DONE,
+           "a call of any other kind is a lower");
+    expect(b.labels[0] == 0, "and does what it does");
+}
+
 /* After case a's run and what was then done to the memory. */
 static void all_refused(struct box *b, const char *why) {
     static const uint32_t calls[] = {MONITOR_STEP, 4, 0, MONITOR_SEND, 6, 4, MONITOR_RAISE, 4, 0, MONITOR_LOWER, 4, 0};
@@ -243,6 +263,7 @@ int main(void) {
     parts();
     started();
     case_a();
+    moves();
     bad_memory();
     lists();
     printf("%u passed, %u failed\n", passed, failed);
