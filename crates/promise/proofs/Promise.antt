@@ -1,6 +1,6 @@
 -- The whole promise, secrecy, delivery and unhindered steps, after every list of calls: for every plan and policy in range
--- of which every rule holds, and so of two texts that the judge accepts, since what they say is in range (crate reader)
--- and keeps every rule (crate verdict).
+-- of which every rule holds, and so of two texts that the judge accepts, since what they say is in range (crates reader and
+-- policies) and keeps every rule (crate verdict).
 use mathlib.Core.Path.{_≡_, refl, subst}
 use mathlib.Core.List.{List}
 use mathlib.Core.Bool.{true}
@@ -8,7 +8,8 @@ use Rattle.plan.specs.declared.{Plan.{Plan}, Kind.{Kind}, Policy.{Policy}}
 use Rattle.plan.specs.Plan.{assertionAt}
 use Rattle.plan.specs.Range.{InRange, Clear, PolicyInRange}
 use Rattle.text.specs.Reading.{readPlan, readPolicy}
-use Rattle.reader.proofs.{Range.{plan-in-range}, PolicyRange.{policy-in-range}}
+use Rattle.reader.proofs.Range.{plan-in-range}
+use Rattle.policies.proofs.PolicyRange.{policy-in-range}
 use Rattle.rules.specs.Rules.{Asked, EveryRule}
 use Rattle.verdict.proofs.Exact.{accepted-exactly}
 use Rattle.machine.specs.Machine.{Limits, boxLimits, Call}

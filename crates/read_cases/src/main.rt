@@ -92,7 +92,7 @@ fn print_policy(plan: Plan, policy_text: &[u8]) {
     if 64 < n {
         return;
     }
-    let read = reader::read_policy(n as u8, policy_text);
+    let read = policies::read_policy(n as u8, policy_text);
     let answer = read.answer;
     match answer {
         Reading::Complete => {

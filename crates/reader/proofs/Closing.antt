@@ -1,4 +1,4 @@
--- The end of a text: nothing may follow the last line, and a refused text hands back the blank plan or policy.
+-- The end of a text: nothing may follow the last line, and a refused text hands back the blank plan.
 use Prim.Native.Nat.{ℕ, _≤_, _<_}
 use mathlib.Core.Path.{_≡_, refl}
 use mathlib.Core.Bool.{Bool, true, false, _&&_, true≢false}
@@ -9,9 +9,8 @@ use lib.Dec.{leb}
 use borrow.Author.Tests.{le-leb, lt-leb, leb-true}
 use Rattle.lists.proofs.Tests.{and-left, and-right, lt-or-le, told}
 use Rattle.plan.specs.declared.Plan.{Plan}
-use Rattle.plan.specs.declared.Policy.{Policy}
 use Rattle.scan.proofs.Steps.{at-place}
-use Rattle.text.specs.Reading.{longest, on, plan, policy, closed, checked, ifComplete, noPlan, noPolicy, readPlan, readPolicy}
+use Rattle.text.specs.Reading.{longest, on, plan, closed, checked, ifComplete, noPlan, readPlan}
 use Rattle.text.specs.Cursors.{stands, cursorOf, stepOf}
 use Rattle.text.proofs.Lines.{lost-cursor, on-cursor}
 use Rattle.text.specs.declared.Refusal.{Refusal}
@@ -58,20 +57,3 @@ module _ (text : List ℕ) (v : Plan) (p : Position) (x : Reading) (h : length t
   pub plan-complete : x ≡ Complete → record { answer = Complete; plan = v } ≡ readPlan text
   unfolding readPlan checked ifComplete
   plan-complete k = rw (← e, le-leb (length text) longest h, told q k, checked)
-
--- ---- the policy
-
-pub policy-long : (N : ℕ) (text : List ℕ) (none : Policy) → none ≡ noPolicy → longest < length text
-    → record { answer = Refused (record { number = 1; line = 0 }); policy = none } ≡ readPolicy N text
-unfolding readPolicy checked ifComplete
-policy-long N text none b h = rw b (rw (lt-leb (length text) longest h, checked))
-
-module _ (N : ℕ) (text : List ℕ) (v : Policy) (p : Position) (x : Reading) (h : length text ≤ longest)
-    (e : stepOf text v p ≡ policy N (on text 1)) (q : x ≡ closed (cursorOf text p)) where
-  pub policy-refused : (r : Refusal) (none : Policy) → x ≡ Refused r → none ≡ noPolicy → record { answer = Refused r; policy = none } ≡ readPolicy N text
-  unfolding readPolicy checked ifComplete
-  policy-refused r none k b = rw b (rw (← e, le-leb (length text) longest h, told q k, checked))
-
-  pub policy-complete : x ≡ Complete → record { answer = Complete; policy = v } ≡ readPolicy N text
-  unfolding readPolicy checked ifComplete
-  policy-complete k = rw (← e, le-leb (length text) longest h, told q k, checked)

@@ -1,4 +1,4 @@
--- Lines read one after the other are the definition's lines: each reader's answer put into the place of its line.
+-- The lines of a plan read one after the other are the definition's lines: each reader's answer put into the place of its line.
 use Prim.Native.Nat.{ℕ, _≤_}
 use mathlib.Core.Path.{_≡_, ap, _∙_}
 use mathlib.Core.Bool.{Bool, false}
@@ -8,22 +8,17 @@ use Rattle.plan.specs.declared.Form.the-variants.{End}
 use lib.ListN.{length, replicate}
 use Rattle.plan.specs.declared.Template.{Template}
 use Rattle.plan.specs.declared.Plan.{Plan}
-use Rattle.plan.specs.declared.Kind.{Kind}
-use Rattle.plan.specs.declared.Kind.the-variants.{Secrecy}
-use Rattle.plan.specs.declared.Assertion.{Assertion}
-use Rattle.plan.specs.declared.Policy.{Policy}
-use Rattle.plan.specs.Plan.{blank, blankAssertion, masks}
+use Rattle.plan.specs.Plan.{blank, masks}
 use Rattle.scan.specs.Bytes.{bytes}
-use Rattle.field.specs.Fields.{number, templateNumber, name, form, risk, kind, declass}
-use Rattle.text.specs.Reading.{longest, on, Step, Entry, entry, plan, assertion, policy}
+use Rattle.field.specs.Fields.{number, name, form, risk}
+use Rattle.text.specs.Reading.{longest, on, Step, Entry, entry, plan}
 use Rattle.text.specs.Cursors.{cursorOf, stepOf, keyed}
 use Rattle.text.specs.declared.Position.{Position}
 use Rattle.text.specs.declared.Position.the-variants.{On}
 use Rattle.text.proofs.Lines.{keyed-line, first-cursor}
-use Rattle.reader.specs.Rows.{maskKeys, maskLines, masked, entryLines, filled, listed}
+use Rattle.reader.specs.Rows.{maskKeys, maskLines, masked, entryLines, filled}
 use Rattle.reader.proofs.Masks.{entry-same}
 use Rattle.reader.proofs.Entries.{filled-all}
-use Rattle.reader.proofs.Assertions.{listed-all}
 
 -- The template has its form and its masks before the line of its risk is read.
 module _ (N M : ℕ) (stood : List (List ℕ)) (text : List ℕ) (p₀ p₁ p₂ p₃ p₄ : Position) (n : List ℕ) (t : Template) (r : Bool) where
@@ -62,31 +57,3 @@ module _ (text : List ℕ) (p₁ p₂ p₃ : Position) (N M : ℕ) (ts : List Te
       (← (a₁ ∙ ap (keyed 0 (bytes "templates=") (number 3 1 65)) (first-cursor text l) ∙ keyed-line 0 "templates=" (number 3 1 65) (on text 1)), ← (a₂ ∙ keyed-line 0 "identifiers=" (number 3 0 33) (cursorOf text p₁)))
       (ap (λ (s : Step (List Template)). record { value = record { count = N; identifiers = M; templates = s .value }; next = s .next })
       (a₃ ∙ filled-all N M (cursorOf text p₂) h))
-
-module _ (N : ℕ) (text : List ℕ) (p₀ p₁ p₂ p₃ p₄ p₅ : Position) (k : Kind) (s z a d : ℕ) where
-  pub assertion-gathered : stepOf text k p₁ ≡ keyed Secrecy (bytes "kind=") kind (cursorOf text p₀)
-      → stepOf text s p₂ ≡ keyed 0 (bytes "source=") (number 3 0 N) (cursorOf text p₁)
-      → stepOf text z p₃ ≡ keyed 0 (bytes "sink=") (number 3 0 N) (cursorOf text p₂)
-      → stepOf text a p₄ ≡ keyed 0 (bytes "anc=") (number 3 0 N) (cursorOf text p₃)
-      → stepOf text d p₅ ≡ keyed 0 (bytes "declass=") (declass N k s z) (cursorOf text p₄)
-      → stepOf {A = Assertion} text (record { kind = k; source = s; sink = z; anc = a; declass = d }) p₅ ≡ assertion N (cursorOf text p₀)
-  unfolding assertion templateNumber
-  assertion-gathered a₁ a₂ a₃ a₄ a₅ =
-      rw (
-        ← (a₁ ∙ keyed-line Secrecy "kind=" kind (cursorOf text p₀)),
-        ← (a₂ ∙ keyed-line 0 "source=" (number 3 0 N) (cursorOf text p₁)),
-        ← (a₃ ∙ keyed-line 0 "sink=" (number 3 0 N) (cursorOf text p₂)),
-        ← (a₄ ∙ keyed-line 0 "anc=" (number 3 0 N) (cursorOf text p₃)),
-        ← (a₅ ∙ keyed-line 0 "declass=" (declass N k s z) (cursorOf text p₄)),
-      )
-
-module _ (N : ℕ) (text : List ℕ) (p₁ p₂ : Position) (K : ℕ) (row : List Assertion) where
-  pub policy-gathered : stepOf text K p₁ ≡ keyed 0 (bytes "assertions=") (number 3 0 33) (cursorOf text (On 0 1))
-      → stepOf text row p₂ ≡ listed N 0 (replicate 32 blankAssertion) K (cursorOf text p₁)
-      → K ≤ 32 → length text ≤ longest
-      → stepOf {A = Policy} text (record { count = K; assertions = row }) p₂ ≡ policy N (on text 1)
-  unfolding policy
-  policy-gathered a₁ a₂ h l =
-      rw (← (a₁ ∙ ap (keyed 0 (bytes "assertions=") (number 3 0 33)) (first-cursor text l) ∙ keyed-line 0 "assertions=" (number 3 0 33) (on text 1)))
-      (ap (λ (s : Step (List Assertion)). record { value = record { count = K; assertions = s .value }; next = s .next })
-      (a₂ ∙ listed-all N K (cursorOf text p₁) h))

@@ -1,11 +1,9 @@
 pub mod Rows
 pub mod Entries
-pub mod Assertions
 pub mod Masks
 pub mod Gathered
 pub mod Closing
 pub mod Live
 pub mod Range
-pub mod PolicyRange
 pub mod Names
 pub mod Places

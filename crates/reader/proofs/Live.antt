@@ -8,7 +8,7 @@ use mathlib.Core.List.{List}
 use native.Mathlib.Omega.{arith}
 use lib.Dec.{leb}
 use lib.ListN.{length}
-use Rattle.field.specs.Fields.{Field, is, number, templateNumber}
+use Rattle.field.specs.Fields.{Field, is, number}
 use Rattle.field.proofs.Each.{Each, number-range}
 use Rattle.text.specs.Reading.{longest, Cursor, on, stopped, line, closed, checked, ifComplete}
 use Rattle.text.proofs.Passed.{Live, fieldAfter, line-read}
@@ -21,7 +21,7 @@ unfolding line
 line-from empty key read (stopped n k) live = absurd live
 line-from empty key read (on text k) live = (tt, (fieldAfter key text, line-read empty key read text k live .2))
 
--- The same for what is true of every field; so for a number and for a template's number.
+-- The same for what is true of every field; so for a number.
 pub line-each : {A : Type 0} (P : A → Type 0) (empty : A) (key : String) (read : List ℕ → Field A) → ((s : List ℕ) → Each P (read s))
     → (c : Cursor) → Live (line empty key read c .next) → Live c × P (line empty key read c .value)
 line-each P empty key read h c live =
@@ -31,11 +31,6 @@ line-each P empty key read h c live =
 pub count-line : (low limit : ℕ) (key : String) (c : Cursor) → Live (line 0 key (number 3 low limit) c .next)
     → Live c × ((low ≤ line 0 key (number 3 low limit) c .value) × (line 0 key (number 3 low limit) c .value < limit))
 count-line low limit key = line-each (λ v. (low ≤ v) × (v < limit)) 0 key (number 3 low limit) (number-range 3 low limit)
-
-pub template-line : (N : ℕ) (key : String) (c : Cursor) → Live (line 0 key (templateNumber N) c .next)
-    → Live c × (line 0 key (templateNumber N) c .value < N)
-unfolding templateNumber
-template-line N key c live = let r = count-line 0 N key c live in (r .0, r .1 .1)
 
 -- ---- the end of the text
 

@@ -1,6 +1,6 @@
 -- The names of a plan's templates, in the order of the text. The plan itself does not keep them; that they differ (document
 -- 01, number 5) and on which line each stands are laws of crate reader.
--- Not to be believed: the contracts of read_plan and read_policy do not name them.
+-- Not to be believed: the contract of read_plan does not name them.
 use Prim.Native.Nat.{ℕ, zero, suc, _<_}
 use mathlib.Core.Logic.{_≢_}
 use mathlib.Core.List.{List, [], _∷_}

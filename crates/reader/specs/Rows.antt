@@ -1,12 +1,12 @@
--- What the code of crate reader gives on its way, on the text that it is lent: an entry, its mask lines, and rows filled
--- one by one.
--- Not to be believed: the contracts of read_plan and read_policy do not name them.
+-- What the code of crate reader gives on its way, on the text that it is lent: an entry, its mask lines, and the row of
+-- templates, filled one by one.
+-- Not to be believed: the contract of read_plan does not name them.
 use Prim.Native.{Nat.{ℕ, zero, suc, _+_}, String.{String}}
 use mathlib.Core.{Bool.{Bool, false}, List.{List, [], _∷_}}
 use lib.ListN.{getD, set}
-use Rattle.plan.specs.declared.{Form.{Form, the-variants.{End}}, Template.{Template}, Assertion.{Assertion}}
+use Rattle.plan.specs.declared.{Form.{Form, the-variants.{End}}, Template.{Template}}
 use Rattle.field.specs.Fields.{mask, name, form, risk}
-use Rattle.text.specs.Reading.{Reader, _>>=_, give, line, Entry, entry, assertion}
+use Rattle.text.specs.Reading.{Reader, _>>=_, give, line, Entry, entry}
 use Rattle.text.specs.Cursors.{part}
 use Rattle.reader.specs.declared.EntryRead.{EntryRead}
 
@@ -43,10 +43,3 @@ filled N M stood i row zero c = record { value = row; next = c }
 filled N M stood i row (suc more) c =
     let e = entry N M stood c in
     filled N M (e .value .name ∷ stood) (i + 1) (set row i (e .value .template)) more (e .next)
-
--- So many assertions more, each put into the row at its place.
-unfoldable pub listed : ℕ → ℕ → List Assertion → ℕ → Reader (List Assertion)
-listed N i row zero c = record { value = row; next = c }
-listed N i row (suc more) c =
-    let a = assertion N c in
-    listed N (i + 1) (set row i (a .value)) more (a .next)

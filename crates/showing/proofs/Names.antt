@@ -17,7 +17,8 @@ use Rattle.text.specs.Reading.{planHeader, templateLines, policyHeader, asserti
 use Rattle.text.specs.declared.Reading.the-variants.{Complete}
 use Rattle.text.proofs.Passed.{afterLines, firstLine, fieldAfter}
 use Rattle.reader.specs.Names.{planNames}
-use Rattle.reader.proofs.Places.{name-stands, kind-stands}
+use Rattle.reader.proofs.Places.{name-stands}
+use Rattle.policies.proofs.Places.{kind-stands}
 use Rattle.rules.specs.Show.{lineStart, lineEnd, nameOf, kindLine, between}
 
 -- Nothing is left after the last line.

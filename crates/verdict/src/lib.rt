@@ -42,7 +42,7 @@ fn judge_over(plan: Plan, policy: &[u8]) -> Verdict
     requires { ⌜ InRange plan ⌝ }
     ensures { λ r. ⌜ r ≡ judgeOver plan (now (policy .entry)) ⌝ }
 {
-    let read = reader::read_policy(plan.count as u8, policy);
+    let read = policies::read_policy(plan.count as u8, policy);
     let answer = read.answer;
     let assertions = read.policy;
     match answer {

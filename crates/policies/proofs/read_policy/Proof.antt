@@ -1,7 +1,7 @@
 -- The length first, then the lines, then that nothing follows.
-use Rattle.reader.proofs.Closing.{policy-long, policy-refused, policy-complete}
-use Rattle.reader.proofs.read_policy.Statement.{statement}
-use Rattle.reader.proofs.read_policy.Tie as tie
+use Rattle.policies.proofs.Closing.{policy-long, policy-refused, policy-complete}
+use Rattle.policies.proofs.read_policy.Statement.{statement}
+use Rattle.policies.proofs.read_policy.Tie as tie
 
 no-policy-requires : tie.Need-no-policy-requires
 no-policy-requires c κs = search

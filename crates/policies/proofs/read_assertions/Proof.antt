@@ -2,9 +2,9 @@
 use Prim.Native.Nat.{_-_}
 use borrow.Author.Needs.{needs}
 use Rattle.text.specs.Cursors.{cursorOf}
-use Rattle.reader.proofs.Assertions.{Turn, turn-first, turn-next, turn-last}
-use Rattle.reader.proofs.read_assertions.Statement.{statement}
-use Rattle.reader.proofs.read_assertions.Tie as tie
+use Rattle.policies.proofs.Assertions.{Turn, turn-first, turn-next, turn-last}
+use Rattle.policies.proofs.read_assertions.Statement.{statement}
+use Rattle.policies.proofs.read_assertions.Tie as tie
 
 abbrev Inv-loop : tie.InvT-loop
 Inv-loop text n k assertions₀ at₀ i₀ assertions at i = Turn text n k (cursorOf text at₀) assertions at i

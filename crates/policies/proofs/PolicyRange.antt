@@ -1,5 +1,6 @@
 -- The policy that was read is in range: each assertion is, and the places after them are blank.
 use Prim.Native.Nat.{ℕ, zero, suc, _-_, _^_, _<_}
+use Prim.Native.String.{String}
 use mathlib.Core.Path.{_≡_, refl, sym, ap, subst}
 use mathlib.Core.Bool.{false}
 use mathlib.Core.List.{List}
@@ -16,9 +17,15 @@ use Rattle.field.specs.Fields.{is, bad, number, templateNumber, mask, kind, mis
 use Rattle.field.proofs.Each.{Each, each-is, each-bad, each-if, each-then, mask-read}
 use Rattle.text.specs.Reading.{Cursor, on, line, assertion, assertions, policy, noPolicy, readPolicy}
 use Rattle.text.specs.declared.Reading.the-variants.{Complete}
 use Rattle.reader.proofs.Rows.{row-full, row-past, row-cons}
 use Rattle.text.proofs.Passed.{Live}
-use Rattle.reader.proofs.Live.{line-from, line-each, count-line, template-line, complete-holds}
+use Rattle.reader.proofs.Live.{line-from, line-each, count-line, complete-holds}
+
+-- A template's number that was read is below N.
+template-line : (N : ℕ) (key : String) (c : Cursor) → Live (line 0 key (templateNumber N) c .next)
+    → Live c × (line 0 key (templateNumber N) c .value < N)
+unfolding templateNumber
+template-line N key c live = let r = count-line 0 N key c live in (r .0, r .1 .1)
 
 declass-range : (N : ℕ) (k : Kind) (source sink : ℕ) (s : List ℕ) → Each (λ d. (d < 2 ^ N) × (misplaced k source sink d ≡ false)) (declass N k source sink s)
 unfolding declass

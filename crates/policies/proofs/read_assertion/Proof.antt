@@ -1,7 +1,7 @@
 -- One line after the other.
-use Rattle.reader.proofs.Gathered.{assertion-gathered}
-use Rattle.reader.proofs.read_assertion.Statement.{statement}
-use Rattle.reader.proofs.read_assertion.Tie as tie
+use Rattle.policies.proofs.Gathered.{assertion-gathered}
+use Rattle.policies.proofs.read_assertion.Statement.{statement}
+use Rattle.policies.proofs.read_assertion.Tie as tie
 
 kind-line-requires : tie.Need-kind-line-requires
 kind-line-requires c κs = search

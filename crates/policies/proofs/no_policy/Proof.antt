@@ -3,8 +3,8 @@ use mathlib.Core.Path.{ap}
 use lib.ListN.{replicate}
 use borrow.Author.Needs.{needs}
 use Rattle.plan.specs.declared.Assertion.{Assertion}
-use Rattle.reader.proofs.no_policy.Statement.{statement}
-use Rattle.reader.proofs.no_policy.Tie as tie
+use Rattle.policies.proofs.no_policy.Statement.{statement}
+use Rattle.policies.proofs.no_policy.Tie as tie
 
 blank-assertion-requires : tie.Need-blank-assertion-requires
 blank-assertion-requires c κs = search needs

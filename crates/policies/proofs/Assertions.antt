@@ -11,8 +11,8 @@ use Rattle.plan.specs.Plan.{blankAssertion}
 use Rattle.text.specs.Reading.{Cursor, Step, assertion, assertions}
 use Rattle.text.specs.Cursors.{cursorOf, stepOf}
 use Rattle.text.specs.declared.Position.{Position}
 use Rattle.reader.proofs.Rows.{longer, seam}
-use Rattle.reader.specs.Rows.{listed}
+use Rattle.policies.specs.Rows.{listed}
 
 -- After i assertions: what is left to list leads to the same end.
 pub record Turn (text : List ℕ) (N K : ℕ) (c : Cursor) (row : List Assertion) (at : Position) (i : ℕ) : Type 0 where

@@ -1,8 +1,8 @@
 -- The count, then the assertions; a count that was read is at most 32.
-use Rattle.reader.proofs.Gathered.{policy-gathered}
+use Rattle.policies.proofs.Gathered.{policy-gathered}
 use borrow.Author.Needs.{needs}
-use Rattle.reader.proofs.read_policy_lines.Statement.{statement}
-use Rattle.reader.proofs.read_policy_lines.Tie as tie
+use Rattle.policies.proofs.read_policy_lines.Statement.{statement}
+use Rattle.policies.proofs.read_policy_lines.Tie as tie
 
 slice-aggregate-number-line : tie.Need-slice-aggregate-number-line
 slice-aggregate-number-line c = search
