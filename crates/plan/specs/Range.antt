@@ -1,5 +1,5 @@
 -- What reading a plan and a policy promises: no number and no mask in them is out of range, and the places that no line
--- filled are blank. A law of crate reader says that everything read is so; the crates above use it.
+-- filled are blank. Laws of crates reader and policies say that everything read is so; the crates above use it.
 -- Not to be believed: nothing is stated of a program by these alone.
 use Prim.Native.Nat.{ℕ, _^_, _≤_, _<_}
 use mathlib.Core.Path.{_≡_}
