@@ -36,7 +36,7 @@ distinct-cons n l stood more len h d (suc i) zero g k = absurd (omega arith)
 distinct-cons n l stood more len h d (suc i) (suc j) g k = d i j (omega arith) (omega arith)
 
 -- Names that come later are none of those that stood, and differ.
-names-new : (N M : ℕ) (more : ℕ) (stood : List (List ℕ)) (c : Cursor) → Live (entries N M stood more c .next)
+pub names-new : (N M : ℕ) (more : ℕ) (stood : List (List ℕ)) (c : Cursor) → Live (entries N M stood more c .next)
     → (length (names N M stood more c) ≡ more) × ((j : ℕ) → j < more → standsIn (getD (names N M stood more c) j []) stood ≡ false) × Distinct (names N M stood more c)
 unfolding entries names
 names-new N M zero stood c live = (refl, λ j h. absurd (omega arith), λ i j h g. absurd (omega arith))

@@ -1,0 +1,11 @@
+pub mod Digits
+pub mod Bytes
+pub mod Decimals
+pub mod Fields
+pub mod Forms
+pub mod Names
+pub mod Lines
+pub mod Texts
+pub mod Policy
+pub mod Plan
+pub mod Cases
