@@ -1,5 +1,4 @@
 -- A list cut at its first byte of one value, and what begins with a key.
--- Not to be believed: laws.
 use Prim.Native.Nat.{ℕ, zero, suc, _+_, _/_, _%_, _^_, _<_}
 use mathlib.Core.Path.{_≡_, refl, sym, ap, ap₂, _∙_}
 use mathlib.Core.List.{List, [], _∷_, _++_}

@@ -1,6 +1,5 @@
 -- Document 01's base plan and policy, from its table, as they are written: the very bytes, by computation. And numbers at
 -- the edges of their widths.
--- Not to be believed: rows that pin the definitions.
 use mathlib.Core.Path.{_≡_, refl}
 use mathlib.Core.List.{[], _∷_, _++_, map, flatten}
 use mathlib.Core.Bool.{true, false}

@@ -1,9 +1,8 @@
 -- Decimal numbers, written and read. A number takes as many digits as it needs, so its first is not 0 unless it is alone.
--- Not to be believed: laws.
-use Prim.Native.Nat.{ℕ, zero, suc, _+_, _/_, _^_, _≤_, _<_}
+use Prim.Native.Nat.{ℕ, zero, suc, _/_, _^_, _≤_, _<_}
 use mathlib.Core.Path.{_≡_, refl, sym, ap, _∙_}
 use mathlib.Core.List.{List, [], _∷_}
-use mathlib.Core.Bool.{Bool, true, false, not, _&&_, _||_}
+use mathlib.Core.Bool.{Bool, true, not, _&&_, _||_}
 use mathlib.Core.Logic.{_⊎_, inl, inr, ⊎-elim}
 use native.Mathlib.Nat.{div-eq-of-lt, le-div-iff-mul-le, pow-le-pow-right}
 use native.Mathlib.Omega.{arith}

@@ -1,5 +1,4 @@
 -- Digits spelled in a base, and read: what is spelled reads as its number, and what reads was spelled so.
--- Not to be believed: laws.
 use Prim.Native.Nat.{ℕ, zero, suc, _+_, _*_, _/_, _%_, _^_, _≤_, _<_}
 use mathlib.Core.Path.{_≡_, refl, sym, ap, ap₂, _∙_, subst}
 use mathlib.Core.List.{List, [], _∷_}

@@ -1,6 +1,5 @@
 -- Each kind of field, written and read: one law a kind. What is written reads back, has no byte 10 and is short; what reads
 -- was written so.
--- Not to be believed: laws.
 use Prim.Native.Nat.{ℕ, _^_, _≤_, _<_}
 use mathlib.Core.Path.{_≡_, refl, ap, ap₂, _∙_, subst}
 use mathlib.Core.List.{List, [], _∷_}

@@ -1,5 +1,4 @@
 -- The form of a template, written and read; two template numbers with a comma between them are cut at it.
--- Not to be believed: laws.
 use Prim.Native.{Nat.{ℕ, _+_, _≤_, _<_}, String.{String}}
 use mathlib.Core.Path.{_≡_, refl, sym, ap, ap₂, _∙_}
 use mathlib.Core.List.{List, [], _∷_, _++_}

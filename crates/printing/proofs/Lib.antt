@@ -7,5 +7,6 @@ pub mod Names
 pub mod Lines
 pub mod Texts
 pub mod Policy
+pub mod Templates
 pub mod Plan
 pub mod Cases

@@ -1,6 +1,5 @@
 -- A line, written and read, by the law of its field: `line-back` for what is written, `line-only` for what is read; and how
 -- such facts of one line join to those of many.
--- Not to be believed: laws.
 use Prim.Native.Nat.{ℕ, zero, suc, _+_, _*_, _≤_, _<_}
 use Prim.Native.String.{String}
 use mathlib.Core.Path.{_≡_, refl, sym, ap, _∙_}

@@ -1,5 +1,4 @@
 -- A name, as a fact of its bytes, is what the reader takes for one.
--- Not to be believed: laws.
 use Prim.Native.Nat.{ℕ, _≤_}
 use mathlib.Core.Path.{_≡_, refl, sym, _∙_}
 use mathlib.Core.List.{List}

@@ -1,5 +1,4 @@
 -- The policy: what is written reads back, and only what is written reads.
--- Not to be believed: laws; `policy-format` proves what Format.antt states.
 use Prim.Native.Nat.{ℕ, zero, suc, _-_, _*_, _≤_, _<_}
 use mathlib.Core.Path.{_≡_, refl, sym, ap, _∙_}
 use mathlib.Core.List.{List, [], _∷_, _++_, append-assoc, append-nil, flatten}

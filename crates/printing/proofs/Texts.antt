@@ -1,5 +1,4 @@
 -- A text whole: its end, its length, and a row that is filled to its array.
--- Not to be believed: laws.
 use Prim.Native.Nat.{ℕ, zero, suc, _+_, _-_, _^_, _≤_, _<_}
 use mathlib.Core.Path.{_≡_, refl, sym, ap, _∙_}
 use mathlib.Core.List.{List, [], _∷_, _++_, append-nil}
