@@ -1,5 +1,6 @@
--- Reading and writing are inverse to one another: what is written reads back, and only what is written reads.
--- Believed: the two statements; proved in crate printing (`plan-format`, `policy-format`).
+-- Reading and writing are inverse to one another: what is written reads back, and only what is written reads. So a plan with
+-- its names has one text, and a policy has one (`one-text`, `one-policy-text`).
+-- Believed: the two statements; `plan-format` and `policy-format` prove them.
 use Prim.Native.Nat.{ℕ, _≤_}
 use mathlib.Core.{Path.{_≡_}, List.{List}}
 use Rattle.plan.specs.{declared.{Plan.{Plan}, Policy.{Policy}}, Range.{PolicyInRange}}
@@ -9,7 +10,8 @@ use Rattle.printing.specs.{Printing.{printPlan, printPolicy}, Printable.
 
 pub record PlanFormat : Type 0 where
   pub back : (plan : Plan) (names : List (List ℕ)) → Printable plan names
-      → (readPlan (printPlan plan names) ≡ record { answer = Complete; plan = plan }) × (planNames (printPlan plan names) ≡ names)
+      → (readPlan (printPlan plan names) ≡ record { answer = Complete; plan = plan })
+      × (planNames (printPlan plan names) ≡ names)
   pub only : (text : List ℕ) → readPlan text .answer ≡ Complete
       → Printable (readPlan text .plan) (planNames text) × (text ≡ printPlan (readPlan text .plan) (planNames text))
 

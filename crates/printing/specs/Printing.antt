@@ -43,19 +43,20 @@ printTemplate name t =
     ++ lineOf "lab=" (maskOf 8 (t .lab)) ++ lineOf "pos=" (maskOf 8 (t .pos))
     ++ lineOf "neg=" (maskOf 8 (t .neg)) ++ lineOf "creates=" (maskOf 8 (t .creates)) ++ lineOf "risk=" (riskOf (t .risk))
 
--- "`templates=` N, `identifiers=` M", then the templates. A plan keeps no names, so they are given with it.
+-- "`templates=` N (1 to 64), `identifiers=` M (0 to 32)", then the templates. A plan keeps no names: they are given with it.
 unfoldable pub printPlan : Plan → List (List ℕ) → List ℕ
 printPlan plan names =
     lineOf "templates=" (decimalOf (plan .count)) ++ lineOf "identifiers=" (decimalOf (plan .identifiers))
     ++ flatten (tabulate (plan .count) (λ X. printTemplate (getD names X []) (at plan X)))
 
--- "For each five lines"; the declass "16 digits".
+-- "For each five lines"; the declass "16 digits over templates".
 unfoldable pub printAssertion : Assertion → List ℕ
 printAssertion a =
     lineOf "kind=" (kindOf (a .kind)) ++ lineOf "source=" (decimalOf (a .source)) ++ lineOf "sink=" (decimalOf (a .sink))
     ++ lineOf "anc=" (decimalOf (a .anc)) ++ lineOf "declass=" (maskOf 16 (a .declass))
 
--- "`assertions=` K", then the assertions.
+-- "`assertions=` K (0 to 32)", then the assertions.
 unfoldable pub printPolicy : Policy → List ℕ
 printPolicy policy =
-    lineOf "assertions=" (decimalOf (policy .count)) ++ flatten (tabulate (policy .count) (λ i. printAssertion (assertionAt policy i)))
+    lineOf "assertions=" (decimalOf (policy .count))
+    ++ flatten (tabulate (policy .count) (λ i. printAssertion (assertionAt policy i)))
