@@ -4,3 +4,4 @@ pub mod Edges
 pub mod Assertions
 pub mod Exact
 pub mod First
+pub mod Sentences
