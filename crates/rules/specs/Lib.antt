@@ -3,3 +3,4 @@ pub mod Rules
 pub mod Broken
 pub mod Show
 pub mod Sentences
+pub mod Faults

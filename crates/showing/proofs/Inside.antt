@@ -24,7 +24,7 @@ use Rattle.rules.proofs.First.{breach-first}
 use Rattle.verdict.proofs.Exact.{broken-exactly}
 use Rattle.verdict.specs.Meaning.{planOf, policyOf}
 use Rattle.showing.specs.Places.{lyingIn}
-use Rattle.showing.proofs.Names.{from-line}
+use Rattle.rules.proofs.Lines.{from-line}
 
 abbrev pub Inside : Part → List ℕ → List ℕ → Type 0
 Inside part planText policyText = (part .start ≤ part .end) × (part .end ≤ length (textOf (part .text) planText policyText))
