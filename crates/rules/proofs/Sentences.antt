@@ -25,16 +25,16 @@ use Rattle.rules.specs.Rules.{Each, RowHolds}
 use Rattle.rules.specs.Judge.{Breach, Verdict, Accepted, Broken, orElse, firstIn, lowestOffender, offends12, offends13, offends14, offends15, offends16, EdgeRule, edgeRules, stepRules, checkEdge}
 use Rattle.rules.specs.Broken.{breach}
 use Rattle.rules.specs.Sentences.{union, shareNothing, sentence12, sentence13, sentence14, sentence15, sentence16, sentence, firstFailing, ruleOf}
-use Rattle.rules.proofs.Edges.{step-rows}
+use Rattle.rules.proofs.Edges.{offendsAs, asked, step-rows}
 
 -- ---- a row and its sentence
 
 -- No identifier below M offends.
-abbrev pub none-offends : ℕ → (ℕ → Bool) → Bool
-none-offends M offends = every M (λ i. not (offends i))
+abbrev pub noneOffends : ℕ → (ℕ → Bool) → Bool
+noneOffends M offends = every M (λ i. not (offends i))
 
 -- Where to offend is to be in a and not in b, that none does is that a is within b.
-said : (M a b : ℕ) (offends : ℕ → Bool) → ((i : ℕ) → offends i ≡ (has i a && not (has i b))) → none-offends M offends ≡ within M a b
+said : (M a b : ℕ) (offends : ℕ → Bool) → ((i : ℕ) → offends i ≡ (has i a && not (has i b))) → noneOffends M offends ≡ within M a b
 unfolding within
 said M a b offends e = every-ext M (λ i. not (offends i)) (λ i. not (has i a) || has i b) (λ i h. ap not (e i) ∙ unless (has i a) (has i b))
   where
@@ -45,36 +45,36 @@ said M a b offends e = every-ext M (λ i. not (offends i)) (λ i. not (has i a) 
 
 -- "a within b plus c", "a minus b within c", "a and b share nothing".
 module _ (M a b c : ℕ) where
-  plus-said : none-offends M (λ i. has i a && not (has i b || has i c)) ≡ within M a (union b c)
+  plus-said : noneOffends M (λ i. has i a && not (has i b || has i c)) ≡ within M a (union b c)
   plus-said = said M a (union b c) _ (λ i. ap (λ (t : Bool). has i a && not t) (sym (has-or i b c)))
 
-  minus-said : none-offends M (λ i. (has i a && not (has i b)) && not (has i c)) ≡ within M (without a b) c
+  minus-said : noneOffends M (λ i. (has i a && not (has i b)) && not (has i c)) ≡ within M (without a b) c
   minus-said = said M (without a b) c _ (λ i. ap (λ (t : Bool). t && not (has i c)) (sym (has-without i a b)))
 
-nothing-said : (M a b : ℕ) → none-offends M (λ i. has i a && has i b) ≡ shareNothing M a b
+nothing-said : (M a b : ℕ) → noneOffends M (λ i. has i a && has i b) ≡ shareNothing M a b
 nothing-said M a b =
     said M (bitAnd a b) 0 _ (λ i. sym (has-and i a b) ∙ sym (and-true (has i (bitAnd a b))) ∙ ap (λ (t : Bool). has i (bitAnd a b) && not t) (sym (has-none i)))
 
 -- Row by row.
 module _ (M lab : ℕ) (X Y : Template) where
-  says12 : none-offends M (offends12 lab X Y) ≡ sentence12 M lab X Y
+  says12 : noneOffends M (offends12 lab X Y) ≡ sentence12 M lab X Y
   says12 = plus-said M (Y .lab) lab (Y .pos)
 
-  says13 : none-offends M (offends13 lab X Y) ≡ sentence13 M lab X Y
+  says13 : noneOffends M (offends13 lab X Y) ≡ sentence13 M lab X Y
   says13 = minus-said M lab (Y .neg) (Y .lab)
 
-  says14 : none-offends M (offends14 lab X Y) ≡ sentence14 M lab X Y
+  says14 : noneOffends M (offends14 lab X Y) ≡ sentence14 M lab X Y
   says14 = plus-said M (Y .pos) (X .pos) (Y .creates)
 
-  says15 : none-offends M (offends15 lab X Y) ≡ sentence15 M lab X Y
+  says15 : noneOffends M (offends15 lab X Y) ≡ sentence15 M lab X Y
   says15 = plus-said M (Y .neg) (X .neg) (Y .creates)
 
-  says16 : none-offends M (offends16 lab X Y) ≡ sentence16 M lab X Y
+  says16 : noneOffends M (offends16 lab X Y) ≡ sentence16 M lab X Y
   says16 = nothing-said M (Y .creates) lab
 
 -- A row says the sentence of its number.
 abbrev pub Says : EdgeRule → Type 0
-Says r = (M lab : ℕ) (X Y : Template) → none-offends M (r .offends lab X Y) ≡ sentence (r .number) M lab X Y
+Says r = (M lab : ℕ) (X Y : Template) → noneOffends M (r .offends lab X Y) ≡ sentence (r .number) M lab X Y
 
 -- So do all rows of the table, and those that a step asks.
 pub rows-say : Each Says edgeRules
@@ -91,10 +91,12 @@ shared-none M a b h e =
 
 -- ---- on an edge
 
-module _ (plan : Plan) (X Y : ℕ) where
-  abbrev offendsAs : EdgeRule → ℕ → Bool
-  offendsAs r = r .offends (at plan X .lab) (at plan X) (at plan Y)
+found-rule : (c : Bool) (b : Breach) (later : Verdict) → ruleOf (orElse (cond c (Broken b) Accepted) later) ≡ cond (not c) (ruleOf later) (some (b .rule))
+unfolding ruleOf orElse
+found-rule true b later = refl
+found-rule false b later = refl
 
+module _ (plan : Plan) (X Y : ℕ) where
   -- The sentence of a number on this edge.
   abbrev pub holds : ℕ → Bool
   holds number = sentence number (plan .identifiers) (at plan X .lab) (at plan X) (at plan Y)
@@ -104,30 +106,25 @@ module _ (plan : Plan) (X Y : ℕ) where
   row-holds r says =
       let M = plan .identifiers in
       let e = says M (at plan X .lab) (at plan X) (at plan Y) in (
-        λ kept. sym e ∙ every-of M (λ i. not (offendsAs r i)) (λ i h. ap not (kept i h)),
-        λ h i l. not-true (offendsAs r i) (every-at M (λ i. not (offendsAs r i)) (e ∙ h) i l),
+        λ kept. sym e ∙ every-of M (λ i. not (offendsAs plan X Y r i)) (λ i h. ap not (kept i h)),
+        λ h i l. not-true (offendsAs plan X Y r i) (every-at M (λ i. not (offendsAs plan X Y r i)) (e ∙ h) i l),
       )
 
-  found-rule : (c : Bool) (b : Breach) (later : Verdict) → ruleOf (orElse (cond c (Broken b) Accepted) later) ≡ cond (not c) (ruleOf later) (some (b .rule))
-  unfolding ruleOf orElse
-  found-rule true b later = refl
-  found-rule false b later = refl
-
   asked-rule : (r : EdgeRule) → Says r → (later : Verdict)
-      → ruleOf (orElse (lowestOffender (plan .identifiers) (r .number) X Y (offendsAs r)) later) ≡ cond (holds (r .number)) (ruleOf later) (some (r .number))
+      → ruleOf (orElse (asked plan X Y r) later) ≡ cond (holds (r .number)) (ruleOf later) (some (r .number))
   unfolding lowestOffender
   asked-rule r says later =
       let M = plan .identifiers in
-      found-rule (ltb (lowest M (offendsAs r)) M) (breach (r .number) X Y (lowest M (offendsAs r))) later
+      found-rule (ltb (lowest M (offendsAs plan X Y r)) M) (breach (r .number) X Y (lowest M (offendsAs plan X Y r))) later
       ∙ ap (λ (c : Bool). cond c (ruleOf later) (some (r .number)))
-      (ap not (lowest-any M (offendsAs r) ∙ any-every M (offendsAs r)) ∙ twice (none-offends M (offendsAs r)) ∙ says M (at plan X .lab) (at plan X) (at plan Y))
+      (ap not (lowest-any M (offendsAs plan X Y r) ∙ any-every M (offendsAs plan X Y r)) ∙ twice (noneOffends M (offendsAs plan X Y r)) ∙ says M (at plan X .lab) (at plan X) (at plan Y))
     where
       twice : (c : Bool) → not (not c) ≡ c
       twice true = refl
       twice false = refl
 
   rows-rule : (rows : List EdgeRule) → Each Says rows
-      → ruleOf (firstIn rows (λ r. lowestOffender (plan .identifiers) (r .number) X Y (offendsAs r))) ≡ firstFailing holds (map (λ (r : EdgeRule). r .number) rows)
+      → ruleOf (firstIn rows (asked plan X Y)) ≡ firstFailing holds (map (λ (r : EdgeRule). r .number) rows)
   unfolding firstIn firstFailing ruleOf
   rows-rule [] says = refl
   rows-rule (r ∷ rows) says =
