@@ -51,10 +51,11 @@ module _ (plan : Plan) (rule X Y : ℕ) (offends : ℕ → Bool) where
 -- ---- the rows of the table, on one edge
 
 module _ (plan : Plan) (X Y : ℕ) where
-  abbrev offendsAs : EdgeRule → ℕ → Bool
+  -- What an identifier does against a row, and the row's verdict.
+  abbrev pub offendsAs : EdgeRule → ℕ → Bool
   offendsAs r = r .offends (at plan X .lab) (at plan X) (at plan Y)
 
-  abbrev asked : EdgeRule → Verdict
+  abbrev pub asked : EdgeRule → Verdict
   asked r = lowestOffender (plan .identifiers) (r .number) X Y (offendsAs r)
 
   rows-hold : (rows : List EdgeRule) → Each (λ r. asked r ≡ Accepted) rows → Each (RowHolds plan X Y) rows

@@ -4,3 +4,8 @@ pub mod Edges
 pub mod Assertions
 pub mod Exact
 pub mod First
+pub mod Sentences
+pub mod Cut
+pub mod Followed
+pub mod Lines
+pub mod Faults

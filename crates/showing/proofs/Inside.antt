@@ -1,11 +1,11 @@
 -- The part that the judge's verdict shows lies in its text: whoever is given its numbers may take the bytes between them.
 use Prim.Native.Nat.{ℕ, zero, suc, _+_, _*_, min, _≤_, _<_}
-use mathlib.Core.Path.{_≡_, refl, sym, ap, _∙_}
-use mathlib.Core.Logic.{_⊎_, inl, inr}
-use mathlib.Core.Bool.{Bool, true, false, cond, _||_, true≢false}
+use mathlib.Core.Path.{_≡_, refl, sym, ap, _∙_, subst}
+use mathlib.Core.Logic.{⊎-elim}
+use mathlib.Core.Bool.{Bool, true, false, cond}
 use mathlib.Core.List.{List}
 use native.Mathlib.Omega.{arith}
-use lib.Dec.{eqb, ltb}
+use lib.Dec.{ltb}
 use lib.ListN.{length, drop, length-take, length-drop}
 use borrow.Author.Tests.{ltb-true}
 use Rattle.scan.specs.Bytes.{bytes, before, further}
@@ -18,13 +18,13 @@ use Rattle.rules.specs.declared.Breach.{Breach}
 use Rattle.rules.specs.declared.Part.{Part}
 use Rattle.rules.specs.declared.Verdict.{Verdict}
 use Rattle.rules.specs.declared.Verdict.the-variants.{Accepted, Broken, Unread}
-use Rattle.rules.specs.Judge.{isEdgeRule, judge}
+use Rattle.rules.specs.Judge.{judge}
 use Rattle.rules.specs.Show.{textOf, lineStart, lineEnd, faultyLine, nameOf, kindLine, located, lying, locate}
 use Rattle.rules.proofs.First.{breach-first}
 use Rattle.verdict.proofs.Exact.{broken-exactly}
 use Rattle.verdict.specs.Meaning.{planOf, policyOf}
 use Rattle.showing.specs.Places.{lyingIn}
-use Rattle.showing.proofs.Names.{from-line}
+use Rattle.rules.proofs.Lines.{from-line}
 
 abbrev pub Inside : Part → List ℕ → List ℕ → Type 0
 Inside part planText policyText = (part .start ≤ part .end) × (part .end ≤ length (textOf (part .text) planText policyText))
@@ -74,14 +74,11 @@ module _ (planText policyText : List ℕ) where
   unfolding located
   broken-inside b e =
       let r = broken-exactly planText policyText b .0 e in
-      go (eqb (b .rule) 11 || isEdgeRule (b .rule)) refl (r .plan-reads) (breach-first (planOf planText) (policyOf planText policyText) b (r .first))
+      ⊎-elim (λ h. subst Lies (sym (h .0)) (name-inside (r .plan-reads) (b .first) (h .1))) (λ h. subst Lies (sym (h .0)) (kind-inside (b .first)))
+      (breach-first (planOf planText) (policyOf planText policyText) b (r .first))
     where
-      go : (t : Bool) → (eqb (b .rule) 11 || isEdgeRule (b .rule)) ≡ t → readPlan planText .answer ≡ Complete
-          → (b .first < planOf planText .count) ⊎ (((eqb (b .rule) 11 || isEdgeRule (b .rule)) ≡ false) × (b .first < policyOf planText policyText .count))
-          → Inside (cond t (nameOf (b .first) planText) (kindLine (b .first) policyText)) planText policyText
-      go true q reads (inl h) = name-inside reads (b .first) h
-      go true q reads (inr h) = absurd (true≢false (sym q ∙ h .0))
-      go false q reads h = kind-inside (b .first)
+      Lies : Bool → Type 0
+      Lies named = Inside (cond named (nameOf (b .first) planText) (kindLine (b .first) policyText)) planText policyText
 
   located-inside : (v : Verdict) → judge planText policyText ≡ v → Inside (located v planText policyText) planText policyText
   unfolding located
