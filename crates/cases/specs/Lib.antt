@@ -1,3 +1,5 @@
 pub mod Base
 pub mod Rows
 pub mod Figures
+pub mod Histories
+pub mod Pairs

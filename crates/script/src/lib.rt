@@ -1,6 +1,4 @@
-// The text of calls: lines `step S B`, `send F T`, `raise S I`, `lower S I`, decimal numbers up to 4,294,967,295 without
-// leading zeros, one space apart, each line ended by byte 10. A call becomes three words: its kind (0 step, 1 send, 2
-// raise, 3 lower) and its two numbers.
+// The text of calls: a line for each (crate callline), ended by byte 10. A call becomes three words: its kind and its two numbers.
 
 ghost use Prim.Native.Nat.{_≤_};
 ghost use mathlib.Core.Path.{_≡_};
@@ -8,97 +6,6 @@ ghost use lib.ListN.{length};
 
 // The longest text of calls.
 const LONGEST: usize = 65536;
-
-pub enum Number {
-    Is(u32),
-    Bad,
-}
-
-// One digit more.
-fn with_digit(value: u32, b: u8) -> Number {
-    if b < 48 {
-        return Number::Bad;
-    }
-    if 57 < b {
-        return Number::Bad;
-    }
-    let next = (value as u64) * 10 + ((b - 48) as u64);
-    if 4294967295 < next {
-        return Number::Bad;
-    }
-    Number::Is((next % 4294967296) as u32)
-}
-
-fn read_number(s: &[u8]) -> Number {
-    if s.len() == 0 {
-        return Number::Bad;
-    }
-    if 1 < s.len() {
-        if s[0] == 48 {
-            return Number::Bad;
-        }
-    }
-    let mut value: u32 = 0;
-    let mut i = 0;
-    while i < s.len() {
-        let Number::Is(next) = with_digit(value, s[i]) else {
-            return Number::Bad;
-        };
-        value = next;
-        i += 1;
-    }
-    Number::Is(value)
-}
-
-// 4 where the word names no call.
-fn kind_of(word: &[u8]) -> u32 {
-    if scan::same_bytes(word, b"step") {
-        return 0;
-    }
-    if scan::same_bytes(word, b"send") {
-        return 1;
-    }
-    if scan::same_bytes(word, b"raise") {
-        return 2;
-    }
-    if scan::same_bytes(word, b"lower") {
-        return 3;
-    }
-    4
-}
-
-pub enum Line {
-    Call(u32, u32, u32),
-    Bad,
-}
-
-// The two numbers of a call of that kind.
-fn read_pair(kind: u32, s: &[u8]) -> Line {
-    let space = scan::find(s, 32);
-    if s.len() <= space {
-        return Line::Bad;
-    }
-    let Number::Is(x) = read_number(&s[0..space]) else {
-        return Line::Bad;
-    };
-    let Number::Is(y) = read_number(&s[space + 1..]) else {
-        return Line::Bad;
-    };
-    Line::Call(kind, x, y)
-}
-
-// A line without its byte 10.
-pub fn read_line(s: &[u8]) -> Line {
-    let space = scan::find(s, 32);
-    if s.len() <= space {
-        return Line::Bad;
-    }
-    let kind = kind_of(&s[0..space]);
-    if 3 < kind {
-        return Line::Bad;
-    }
-    read_pair(kind, &s[space + 1..])
-}
 
 // One word, where there is room for it.
 fn put(words: &mut [u32], at: usize, word: u32) {
@@ -127,7 +34,7 @@ fn read_lines(text: &[u8], words: &mut [u32]) -> Script
                 fault: true,
             };
         }
-        let Line::Call(kind, x, y) = read_line(&text[at..at + n]) else {
+        let callline::Line::Call(kind, x, y) = callline::read_line(&text[at..at + n]) else {
             return Script {
                 count: count,
                 fault: true,

@@ -7,7 +7,7 @@ use Rattle.script.proofs.read_lines.Statement.{statement}
 use Rattle.script.proofs.read_lines.Tie as tie
 use Rattle.scan.proofs.find.Reads as find-reads
 use Rattle.script.proofs.put.Reads as put-reads
-use Rattle.script.proofs.read_line.Reads as read-line-reads
+use Rattle.callline.proofs.read_line.Reads as read-line-reads
 
 abbrev Inv-loop : tie.InvT-loop
 Inv-loop text words₀ at₀ count₀ words at count = (at ≤ length text) × (count ≤ length words) × (length words ≡ length words₀)

@@ -2,9 +2,9 @@
 use Prim.Native.Nat.{_-_}
 use lib.ListN.{length}
 use borrow.Author.Needs.{needs}
-use Rattle.script.proofs.read_number.Statement.{statement}
-use Rattle.script.proofs.read_number.Tie as tie
-use Rattle.script.proofs.with_digit.Reads as with-digit-reads
+use Rattle.callline.proofs.read_number.Statement.{statement}
+use Rattle.callline.proofs.read_number.Tie as tie
+use Rattle.callline.proofs.with_digit.Reads as with-digit-reads
 
 abbrev Inv-loop : tie.InvT-loop
 Inv-loop s value₀ i₀ value i = Unit {0}

@@ -1,0 +1,15 @@
+-- The length of a list of one value many times, by a law: it would take long to count.
+use Prim.Native.Nat.{ℕ}
+use mathlib.Core.Path.{sym}
+use lib.ListN.{length-replicate}
+use Rattle.script.proofs.text_room.Statement.{statement}
+use Rattle.script.proofs.text_room.Tie as tie
+
+returns : tie.Need-returns
+returns c = sym (length-replicate {A = ℕ} 131072 0)
+
+pub text-room-spec : {M : Type 1} → statement M
+text-room-spec =
+    tie.close
+    (tie.spec
+    returns)
