@@ -1,16 +1,11 @@
--- What reading a plan and a policy promises: no number and no mask in them is out of range, and the places that no line
--- filled are blank. Laws of crates reader and policies say that everything read is so; the crates above use it.
--- Not to be believed: nothing is stated of a program by these alone.
+-- When a plan and a policy are in range: no number and no mask in them is out of range, and the places that no line fills are
+-- blank. Laws of crates reader and policies say that everything read is so, and those of crate printing that what is so has a text.
+-- Believed beside printing/specs, which say with these which plans and policies have a text; nowhere else.
 use Prim.Native.Nat.{ℕ, _^_, _≤_, _<_}
-use mathlib.Core.Path.{_≡_}
-use mathlib.Core.Bool.{true, false}
+use mathlib.Core.{Path.{_≡_}, Bool.{true, false}}
 use lib.ListN.{length}
 use Rattle.mask.specs.Mask.{has}
-use Rattle.plan.specs.declared.Plan.{Plan}
-use Rattle.plan.specs.declared.Kind.{Kind}
-use Rattle.plan.specs.declared.Kind.the-variants.{Secrecy, Prot}
-use Rattle.plan.specs.declared.Assertion.{Assertion}
-use Rattle.plan.specs.declared.Policy.{Policy}
+use Rattle.plan.specs.declared.{Plan.{Plan}, Kind.{Kind, the-variants.{Secrecy, Prot}}, Assertion.{Assertion}, Policy.{Policy}}
 use Rattle.plan.specs.Plan.{blank, blankAssertion, at, assertionAt, templateFits}
 
 pub record InRange (plan : Plan) : Type 0 where
