@@ -91,10 +91,14 @@ module _ (t : Text) (xs ys : List ℕ) (at r : ℕ) where
 
 -- What write_verdict ensures.
 abbrev pub Written : Verdict → List ℕ → List ℕ → ℕ → Type 0
-Written v xs ys r = ((r ≡ length (printed v)) × (ys ≡ printed v ++ drop r xs)) × (r ≤ 64)
+Written v xs ys r = ((r ≡ length (printed v)) × (ys ≡ printed v ++ drop r xs)) × (r ≤ length ys)
 
 within : (v : Verdict) (xs ys : List ℕ) (r : ℕ) → Appends xs 0 (printed v) ys r → length xs ≡ 64 → r ≤ 64 → Written v xs ys r
-within v xs ys r e l h = (all-parts e (subst (λ (k : ℕ). r ≤ k) (sym l) h), h)
+within v xs ys r e l h =
+    let w = all-parts e (subst (λ (k : ℕ). r ≤ k) (sym l) h) in
+    let p = w .0 in
+    let q = ap length (w .1) ∙ length-append (printed v) (drop r xs) in
+    (w, omega (arith, p, q))
 
 pub accepted-written : (xs ys : List ℕ) (r : ℕ) → Appends xs 0 (bytes "verdict=accepted\n") ys r → length xs ≡ 64 → r ≤ 64
     → Written Accepted xs ys r

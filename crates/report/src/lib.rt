@@ -59,7 +59,7 @@ fn append_text(out: &mut [u8], at: usize, text: Text) -> usize
 fn write_broken(breach: Breach, out: &mut [u8]) -> usize
     requires { ⌜ length (now out) ≡ 64 ⌝ }
     ensures { λ r. ⌜ (r ≡ length (printed (Broken breach))) × (now (out .exit) ≡ printed (Broken breach) ++ drop r (now (out .entry))) ⌝ }
-    ensures room { λ r. ⌜ r ≤ 64 ⌝ }
+    ensures room { λ r. ⌜ r ≤ length (now (out .exit)) ⌝ }
 {
     let a = append(out, 0, b"verdict=broken\n");
     let b = append_small(out, a, b"rule=", breach.rule);
@@ -71,7 +71,7 @@ fn write_broken(breach: Breach, out: &mut [u8]) -> usize
 fn write_unread(fault: Fault, out: &mut [u8]) -> usize
     requires { ⌜ length (now out) ≡ 64 ⌝ }
     ensures { λ r. ⌜ (r ≡ length (printed (Unread fault))) × (now (out .exit) ≡ printed (Unread fault) ++ drop r (now (out .entry))) ⌝ }
-    ensures room { λ r. ⌜ r ≤ 64 ⌝ }
+    ensures room { λ r. ⌜ r ≤ length (now (out .exit)) ⌝ }
 {
     let text = fault.text;
     let a = append(out, 0, b"verdict=unread\n");
@@ -83,7 +83,7 @@ fn write_unread(fault: Fault, out: &mut [u8]) -> usize
 // How many bytes the verdict has; they stand at the buffer's start, and after them what stood there.
 pub fn write_verdict(verdict: Verdict, out: &mut [u8; 64]) -> usize
     ensures { λ r. ⌜ (r ≡ length (printed verdict)) × (now (out .exit) ≡ printed verdict ++ drop r (now (out .entry))) ⌝ }
-    ensures room { λ r. ⌜ r ≤ 64 ⌝ }
+    ensures room { λ r. ⌜ r ≤ length (now (out .exit)) ⌝ }
 {
     match verdict {
         Verdict::Accepted => append(out, 0, b"verdict=accepted\n"),
