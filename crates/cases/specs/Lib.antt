@@ -1,3 +1,4 @@
 pub mod Base
 pub mod Rows
 pub mod Figures
+pub mod Printed
