@@ -9,9 +9,9 @@ use Rattle.rules.specs.declared.Fault.{Fault}
 use Rattle.rules.specs.declared.Breach.{Breach}
 use Rattle.rules.specs.declared.Verdict.{Verdict}
 use Rattle.rules.specs.declared.Verdict.the-variants.{Accepted, Broken, Unread}
+use Rattle.rules.specs.Judge.{numbersOf}
 use Rattle.machine.specs.declared.State.{State}
 use Rattle.playback.specs.Playback.{playable, Replays}
-use Rattle.rules.specs.Judge.{numbersOf}
 use Rattle.embed.specs.Embed.{ReplayedAll}
 
 broken-not : (b : Breach) → Broken b ≢ Accepted

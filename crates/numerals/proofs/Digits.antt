@@ -4,7 +4,7 @@ use mathlib.Core.Path.{_≡_, refl, sym, ap, _∙_, subst}
 use mathlib.Core.Bool.{Bool, true, false}
 use mathlib.Core.List.{List, [], _∷_}
 use mathlib.Core.Logic.{⊎-elim}
-use native.Mathlib.Nat.{mod-lt, div-lt-iff-lt-mul, one-le-pow, zero-lt-suc, eq-or-lt-of-le, le-trans, pow-suc, mul-comm, le-of-suc-le-suc}
+use native.Mathlib.Nat.{mod-lt, div-lt-iff-lt-mul, one-le-pow, zero-lt-suc, eq-or-lt-of-le, le-trans, pow-suc, mul-comm}
 use native.Mathlib.Numerals.{add-one}
 use native.Mathlib.Omega.{arith}
 use lib.ListN.{length, getD, set}

@@ -12,7 +12,7 @@ ghost use Rattle.rules.specs.declared.Verdict.the-variants.{Broken, Unread};
 ghost use Rattle.rules.specs.Judge.{printed};
 ghost use Rattle.report.specs.Lines.{Appends, figureLine, textLine};
 
-// Copies bytes to a place on; the place after them.
+// Copies bytes into the list from a place on and answers the place after them.
 fn append(out: &mut [u8], at: usize, bytes: &[u8]) -> usize
     requires { ⌜ at + length (now bytes) ≤ length (now out) ⌝ }
     ensures { λ r. ⌜ Appends (now (out .entry)) at (now (bytes .entry)) (now (out .exit)) r ⌝ }

@@ -1,7 +1,7 @@
 -- All digits where they fit, and otherwise nothing.
-use Rattle.numerals.proofs.Fitting.{decimal-none, decimal-there, decimal-room, decimal-written}
 use Prim.Native.Nat.{_<_}
 use borrow.Author.Needs.{needs}
+use Rattle.numerals.proofs.Fitting.{decimal-none, decimal-there, decimal-room, decimal-written}
 use Rattle.numerals.proofs.write_decimal.Statement.{statement}
 use Rattle.numerals.proofs.write_decimal.Tie as tie
 

@@ -1,7 +1,7 @@
 -- Three digits at most.
-use Rattle.report.proofs.Printed.{small-width, small-end}
 use Prim.Native.Nat.{_<_}
 use borrow.Author.Needs.{needs}
+use Rattle.report.proofs.Printed.{small-width, small-end}
 use Rattle.report.proofs.append_small.Statement.{statement}
 use Rattle.report.proofs.append_small.Tie as tie
 
