@@ -3,3 +3,4 @@ pub mod Rows
 pub mod Figures
 pub mod Histories
 pub mod Pairs
+pub mod Printed

@@ -8,7 +8,7 @@ use Rattle.plan.specs.declared.Plan.{Plan}
 use Rattle.text.specs.Reading.{readPlan}
 use Rattle.rules.specs.declared.Verdict.{Verdict}
 use Rattle.rules.specs.declared.Verdict.the-variants.{Accepted, Broken, Unread}
-use Rattle.rules.specs.Judge.{judge}
+use Rattle.rules.specs.Judge.{judge, numbersOf}
 use Rattle.machine.specs.declared.State.{State}
 use Rattle.machine.specs.declared.Started.{Started}
 use Rattle.machine.specs.Machine.{Machine, start}
@@ -16,7 +16,6 @@ use Rattle.machine.specs.State.{Cells, machineFrom, machineOf, blankState, star
 use Rattle.planrow.specs.Row.{planOfRow, rowOfPlan}
 use Rattle.planrow.proofs.RoundTrip.{none-means}
 use Rattle.monitor.proofs.Starting.{accepted-means}
-use Rattle.words.specs.Words.{verdictWords}
 use Rattle.memory.specs.Memory.{held, machineIn}
 use Rattle.embed.specs.Embed.{Starts}
 
@@ -33,11 +32,11 @@ module _ (planText policyText : List ℕ) where
     unfolding machineOf machineFrom
     same-plan = ap (λ (m : Machine). m .plan) (w .1)
 
-    pub starts-so : (words row : List ℕ) → words ≡ verdictWords (begun .verdict) → row ≡ rowOfPlan (begun .state .plan)
+    pub starts-so : (words row : List ℕ) → words ≡ numbersOf (begun .verdict) → row ≡ rowOfPlan (begun .state .plan)
         → Starts planText policyText words row (held (begun .state .next ∷ begun .state .live ∷ []) (begun .state .serials) (begun .state .templates) (begun .state .labels) (begun .state .tags))
     unfolding started machineIn machineOf
     starts-so words row ew er = record {
-      judged = ew ∙ ap verdictWords (w .0);
+      judged = ew ∙ ap numbersOf (w .0);
       written = er ∙ ap rowOfPlan same-plan;
       means = ap planOfRow (er ∙ ap rowOfPlan same-plan) ∙ started-means (judge planText policyText) refl;
       machine =

@@ -9,9 +9,9 @@ use Rattle.rules.specs.declared.Fault.{Fault}
 use Rattle.rules.specs.declared.Breach.{Breach}
 use Rattle.rules.specs.declared.Verdict.{Verdict}
 use Rattle.rules.specs.declared.Verdict.the-variants.{Accepted, Broken, Unread}
+use Rattle.rules.specs.Judge.{numbersOf}
 use Rattle.machine.specs.declared.State.{State}
 use Rattle.playback.specs.Playback.{playable, Replays}
-use Rattle.words.specs.Words.{verdictWords}
 use Rattle.embed.specs.Embed.{ReplayedAll}
 
 broken-not : (b : Breach) → Broken b ≢ Accepted
@@ -27,9 +27,9 @@ module _ (planText policyText words places : List ℕ) (v : Verdict) (n : ℕ) (
   rest-of (Broken b) e j h = ap (λ (l : List ℕ). getD l j 0) (w .untouched (λ q. broken-not b (sym e ∙ q)) .1)
   rest-of (Unread f) e j h = ap (λ (l : List ℕ). getD l j 0) (w .untouched (λ q. unread-not f (sym e ∙ q)) .1)
 
-  pub replayed-all : (verdict : List ℕ) → verdict ≡ verdictWords v → ReplayedAll planText policyText words places verdict n filled
+  pub replayed-all : (verdict : List ℕ) → verdict ≡ numbersOf v → ReplayedAll planText policyText words places verdict n filled
   replayed-all verdict e = record {
-    judged = e ∙ ap verdictWords (w .judged);
+    judged = e ∙ ap numbersOf (w .judged);
     counted = w .counted ∙ ap (λ (v : Verdict). playable v (length words) (length places)) (w .judged);
     each = λ a j h. w .played (w .judged ∙ a) .each j h;
     rest = rest-of v refl;

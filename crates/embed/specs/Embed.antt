@@ -9,7 +9,7 @@ use mathlib.Core.Option.{some}
 use lib.ListN.{length, getD, replicate}
 use Rattle.text.specs.Reading.{readPlan, readPolicy}
 use Rattle.rules.specs.declared.Verdict.the-variants.{Accepted}
-use Rattle.rules.specs.Judge.{judge}
+use Rattle.rules.specs.Judge.{judge, numbersOf}
 use Rattle.machine.specs.declared.Answer.the-variants.{Done}
 use Rattle.machine.specs.Machine.{boxLimits, start}
 use Rattle.machine.specs.State.{started, codeOf}
@@ -17,7 +17,6 @@ use Rattle.promise.specs.Promise.{Promised}
 use Rattle.promise.specs.Replay.{answers, callsIn}
 use Rattle.playback.specs.Playback.{playable}
 use Rattle.planrow.specs.Row.{planOfRow, rowOfPlan}
-use Rattle.words.specs.Words.{verdictWords}
 use Rattle.memory.specs.Memory.{Held, held, machineIn}
 
 -- ---- start
@@ -28,7 +27,7 @@ blankHeld = held (0 ∷ 0 ∷ []) (replicate 128 0) (replicate 128 0) (replicate
 -- The verdict, the row and the memory that start leaves: the row is that of the started machine's plan and means that
 -- plan, the memory means that machine; not accepted, both are blank.
 pub record Starts (planText policyText : List ℕ) (verdict row : List ℕ) (after : Held) : Type 0 where
-  pub judged : verdict ≡ verdictWords (judge planText policyText)
+  pub judged : verdict ≡ numbersOf (judge planText policyText)
   pub written : row ≡ rowOfPlan (started planText policyText .plan)
   pub means : planOfRow row ≡ some (started planText policyText .plan)
   pub machine : machineIn (started planText policyText .plan) after ≡ started planText policyText
@@ -39,7 +38,7 @@ pub record Starts (planText policyText : List ℕ) (verdict row : List ℕ) (aft
 -- From the two texts. Accepted: the answers are those of the calls played from the started machine, and the box promise
 -- holds after them. Else nothing but the verdict is written.
 pub record ReplayedAll (planText policyText words places : List ℕ) (verdict : List ℕ) (count : ℕ) (filled : List ℕ) : Type 0 where
-  pub judged : verdict ≡ verdictWords (judge planText policyText)
+  pub judged : verdict ≡ numbersOf (judge planText policyText)
   pub counted : count ≡ playable (judge planText policyText) (length words) (length places)
   pub each : judge planText policyText ≡ Accepted → (j : ℕ) → j < count
       → getD filled j 0 ≡ codeOf (getD (answers boxLimits (start (readPlan planText .plan)) (callsIn count words)) j Done)

@@ -4,16 +4,16 @@ use planrow::WORDS;
 ghost use mathlib.Core.Path.{_≡_};
 ghost use Rattle.machine.specs.State.{callOf};
 ghost use Rattle.planrow.specs.Row.{planOfRow};
-ghost use Rattle.rules.specs.Judge.{judge};
+ghost use Rattle.rules.specs.Judge.{judge, numbersOf};
 ghost use Rattle.rules.specs.Show.{locate};
-ghost use Rattle.words.specs.Words.{verdictWords, partWords};
+ghost use Rattle.words.specs.Words.{partWords};
 ghost use Rattle.memory.specs.Memory.{held, Answers, Runs};
 ghost use Rattle.embed.specs.Embed.{Starts, ReplayedAll};
 
 // Unread, broken or accepted.
 #[no_mangle]
 pub extern "C" fn monitor_judge<'a>(plan: &'a [u8], policy: &'a [u8], words: &'a mut [u32; 5])
-    ensures { λ _. ⌜ now (words .exit) ≡ verdictWords (judge (now (plan .entry)) (now (policy .entry))) ⌝ }
+    ensures { λ _. ⌜ now (words .exit) ≡ numbersOf (judge (now (plan .entry)) (now (policy .entry))) ⌝ }
 {
     let verdict = verdict::judge(plan, policy);
     *words = words::verdict_words(verdict);

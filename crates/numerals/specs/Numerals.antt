@@ -1,5 +1,5 @@
 -- Numbers as they are written: their digits, the highest first.
--- Believed: everything here. What `judge` prints and the printed texts are written with these.
+-- Believed: everything here. What `judge` prints and the printed texts are written with these; proved against them: write_decimal.
 use Prim.Native.Nat.{ℕ, zero, suc, _+_, _/_, _%_, _^_}
 use mathlib.Core.{Bool.{cond}, List.{List, [], _∷_}}
 use lib.Dec.{ltb}

@@ -1,75 +1,93 @@
-// A verdict as lines, as document 01 says of the program judge, and on one line.
+// A verdict as the program judge prints it, written into a lent buffer.
+use rules::Breach;
+use rules::Fault;
 use rules::Text;
 use rules::Verdict;
+ghost use mathlib.Core.Path.{_≡_};
+ghost use mathlib.Core.List.{_++_};
+ghost use Prim.Native.Nat.{_≤_, _+_};
+ghost use lib.ListN.{length, drop};
+ghost use Rattle.numerals.specs.Numerals.{decimalWidth};
+ghost use Rattle.rules.specs.declared.Verdict.the-variants.{Broken, Unread};
+ghost use Rattle.rules.specs.Judge.{printed};
+ghost use Rattle.report.specs.Lines.{Appends, figureLine, textLine};
 
-fn print_text(text: Text) {
+// Copies bytes into the list from a place on and answers the place after them.
+fn append(out: &mut [u8], at: usize, bytes: &[u8]) -> usize
+    requires { ⌜ at + length (now bytes) ≤ length (now out) ⌝ }
+    ensures { λ r. ⌜ Appends (now (out .entry)) at (now (bytes .entry)) (now (out .exit)) r ⌝ }
+{
+    let mut i: usize = 0;
+    while i < bytes.len() {
+        out[at + i] = bytes[i];
+        i += 1;
+    }
+    at + i
+}
+
+// A line of a key, with its equals sign, and a number.
+fn append_figure(out: &mut [u8], at: usize, key: &[u8], figure: u32) -> usize
+    requires { ⌜ at + length (now key) + decimalWidth figure + 1 ≤ length (now out) ⌝ }
+    ensures { λ r. ⌜ Appends (now (out .entry)) at (figureLine (now (key .entry)) figure) (now (out .exit)) r ⌝ }
+{
+    let a = append(out, at, key);
+    let b = numerals::write_decimal(out, a, figure);
+    append(out, b, b"\n")
+}
+
+// The same of a byte, which has at most three digits.
+fn append_small(out: &mut [u8], at: usize, key: &[u8], figure: u8) -> usize
+    requires { ⌜ at + length (now key) + 4 ≤ length (now out) ⌝ }
+    ensures { λ r. ⌜ Appends (now (out .entry)) at (figureLine (now (key .entry)) figure) (now (out .exit)) r ⌝ }
+    ensures room { λ r. ⌜ r ≤ at + length (now (key .entry)) + 4 ⌝ }
+{
+    append_figure(out, at, key, figure as u32)
+}
+
+// The line that names the text.
+fn append_text(out: &mut [u8], at: usize, text: Text) -> usize
+    requires { ⌜ at + 12 ≤ length (now out) ⌝ }
+    ensures { λ r. ⌜ Appends (now (out .entry)) at (textLine text) (now (out .exit)) r ⌝ }
+    ensures room { λ r. ⌜ r ≤ at + 12 ⌝ }
+{
     match text {
-        Text::Plan => {
-            console::print(b"text=plan\n");
-        }
-        Text::Policy => {
-            console::print(b"text=policy\n");
-        }
+        Text::Plan => append(out, at, b"text=plan\n"),
+        Text::Policy => append(out, at, b"text=policy\n"),
     }
 }
 
-pub fn print_verdict(verdict: Verdict) {
+fn write_broken(breach: Breach, out: &mut [u8]) -> usize
+    requires { ⌜ length (now out) ≡ 64 ⌝ }
+    ensures { λ r. ⌜ (r ≡ length (printed (Broken breach))) × (now (out .exit) ≡ printed (Broken breach) ++ drop r (now (out .entry))) ⌝ }
+    ensures room { λ r. ⌜ r ≤ length (now (out .exit)) ⌝ }
+{
+    let a = append(out, 0, b"verdict=broken\n");
+    let b = append_small(out, a, b"rule=", breach.rule);
+    let c = append_small(out, b, b"first=", breach.first);
+    let d = append_small(out, c, b"second=", breach.second);
+    append_small(out, d, b"identifier=", breach.identifier)
+}
+
+fn write_unread(fault: Fault, out: &mut [u8]) -> usize
+    requires { ⌜ length (now out) ≡ 64 ⌝ }
+    ensures { λ r. ⌜ (r ≡ length (printed (Unread fault))) × (now (out .exit) ≡ printed (Unread fault) ++ drop r (now (out .entry))) ⌝ }
+    ensures room { λ r. ⌜ r ≤ length (now (out .exit)) ⌝ }
+{
+    let text = fault.text;
+    let a = append(out, 0, b"verdict=unread\n");
+    let b = append_text(out, a, text);
+    let c = append_small(out, b, b"number=", fault.number);
+    append_figure(out, c, b"line=", fault.line)
+}
+
+// How many bytes the verdict has; they stand at the buffer's start, and after them what stood there.
+pub fn write_verdict(verdict: Verdict, out: &mut [u8; 64]) -> usize
+    ensures { λ r. ⌜ (r ≡ length (printed verdict)) × (now (out .exit) ≡ printed verdict ++ drop r (now (out .entry))) ⌝ }
+    ensures room { λ r. ⌜ r ≤ length (now (out .exit)) ⌝ }
+{
     match verdict {
-        Verdict::Accepted => {
-            console::print(b"verdict=accepted\n");
-        }
-        Verdict::Broken(breach) => {
-            console::print(b"verdict=broken\n");
-            console::print_figure(b"rule=", breach.rule as u64);
-            console::print_figure(b"first=", breach.first as u64);
-            console::print_figure(b"second=", breach.second as u64);
-            console::print_figure(b"identifier=", breach.identifier as u64);
-        }
-        Verdict::Unread(fault) => {
-            console::print(b"verdict=unread\n");
-            let text = fault.text;
-            print_text(text);
-            console::print_figure(b"number=", fault.number as u64);
-            console::print_figure(b"line=", fault.line as u64);
-        }
-    }
-}
-
-// Which text, between the words of a line.
-pub fn print_which(text: Text) {
-    match text {
-        Text::Plan => {
-            console::print(b" plan ");
-        }
-        Text::Policy => {
-            console::print(b" policy ");
-        }
-    }
-}
-
-// The same on one line, as stored cases have it.
-pub fn print_brief(verdict: Verdict) {
-    match verdict {
-        Verdict::Accepted => {
-            console::print(b"accepted");
-        }
-        Verdict::Broken(breach) => {
-            console::print(b"broken ");
-            console::print_number(breach.rule as u64);
-            console::print(b" ");
-            console::print_number(breach.first as u64);
-            console::print(b" ");
-            console::print_number(breach.second as u64);
-            console::print(b" ");
-            console::print_number(breach.identifier as u64);
-        }
-        Verdict::Unread(fault) => {
-            console::print(b"unread");
-            let text = fault.text;
-            print_which(text);
-            console::print_number(fault.number as u64);
-            console::print(b" ");
-            console::print_number(fault.line as u64);
-        }
+        Verdict::Accepted => append(out, 0, b"verdict=accepted\n"),
+        Verdict::Broken(breach) => write_broken(breach, out),
+        Verdict::Unread(fault) => write_unread(fault, out),
     }
 }

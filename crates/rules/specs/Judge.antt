@@ -1,13 +1,18 @@
--- Rules 11 to 19, and the verdict: the first broken rule in document 01's order, with its figures ("The judge").
--- Believed: everything here. Proved against it: crates offenders, edges, assertions and verdict; stepRules also crate admission.
+-- Rules 11 to 19, and the verdict: the first broken rule in document 01's order, with its figures ("The judge"); its numbers,
+-- and what `judge` prints of it.
+-- Believed: everything here. Proved against it: crates offenders, edges, assertions and verdict; stepRules also crate admission;
+-- numbersOf crate words; printed crate report.
 use Prim.Native.{Nat.{ℕ, zero, suc}, String.{String}}
-use mathlib.Core.{Bool.{Bool, not, cond, _&&_, _||_}, List.{List, [], _∷_}}
+use mathlib.Core.{Bool.{Bool, not, cond, _&&_, _||_}, List.{List, [], _∷_, _++_}}
 use lib.Dec.{eqb, ltb}
+use lib.ListN.{getD}
 use Rattle.lists.specs.Numbers.{every, any, lowest, all}
+use Rattle.numerals.specs.Numerals.{decimalOf}
 use Rattle.mask.specs.Mask.{has}
 use Rattle.plan.specs.declared.{Template.{Template}, Plan.{Plan}, Kind.{Kind, the-variants.{Secrecy, Prot}}}
 use Rattle.plan.specs.declared.{Assertion.{Assertion}, Policy.{Policy}}
 use Rattle.plan.specs.Plan.{at, successors, creates, assertionAt}
+use Rattle.scan.specs.Bytes.{bytes}
 use Rattle.route.specs.Search.{sharesTag, splitsTag}
 use Rattle.text.specs.{declared.Reading.{Reading, the-variants.{Complete, Refused}}, Reading.{readPlan, readPolicy}}
 pub use Rattle.rules.specs.declared.Text.{Text, the-variants.{Plan as PlanText, Policy as PolicyText}}
@@ -145,19 +150,47 @@ judge planText policyText =
     let policy = readPolicy (plan .plan .count) policyText in
     afterReading PlanText (plan .answer) (afterReading PolicyText (policy .answer) (judgeRead (plan .plan) (policy .policy)))
 
--- "It prints [..] each on its own line in that order": the paper's words and numbers of each verdict.
+-- "For an answer that is an enum, a definition gives this paper's number and values for each of its cases": of a text, and
+-- of a verdict its kind (0 accepted, 1 broken, 2 unread), then its figures in the paper's order.
+unfoldable pub textNumber : Text → ℕ
+textNumber PlanText = 0
+textNumber PolicyText = 1
+
+unfoldable pub numbersOf : Verdict → List ℕ
+numbersOf Accepted = 0 ∷ 0 ∷ 0 ∷ 0 ∷ 0 ∷ []
+numbersOf (Broken b) = 1 ∷ b .rule ∷ b .first ∷ b .second ∷ b .identifier ∷ []
+numbersOf (Unread f) = 2 ∷ textNumber (f .text) ∷ f .number ∷ f .line ∷ 0 ∷ []
+
+-- What `judge` prints. A line is a key with a word, or a key with a number.
 pub data Line : Type 0 where
   says : String → String → Line
   counts : String → ℕ → Line
 
-abbrev pub textName : Text → String
-textName PlanText = "plan"
-textName PolicyText = "policy"
+abbrev pub textName : ℕ → String
+textName zero = "plan"
+textName (suc n) = "policy"
+
+-- "It prints `verdict=accepted`; or `verdict=unread`, `text=` plan or policy, `number=`, `line=`; or `verdict=broken`,
+-- `rule=`, `first=`, `second=`, `identifier=`": by the kind and the figures.
+unfoldable pub reportOf : ℕ → (ℕ → ℕ) → List Line
+reportOf zero figure = says "verdict" "accepted" ∷ []
+reportOf (suc zero) figure =
+    says "verdict" "broken" ∷ counts "rule" (figure 1) ∷ counts "first" (figure 2) ∷ counts "second" (figure 3)
+    ∷ counts "identifier" (figure 4) ∷ []
+reportOf (suc (suc n)) figure =
+    says "verdict" "unread" ∷ says "text" (textName (figure 1)) ∷ counts "number" (figure 2) ∷ counts "line" (figure 3) ∷ []
 
 unfoldable pub report : Verdict → List Line
-report Accepted = says "verdict" "accepted" ∷ []
-report (Broken b) =
-    says "verdict" "broken" ∷ counts "rule" (b .rule) ∷ counts "first" (b .first) ∷ counts "second" (b .second)
-    ∷ counts "identifier" (b .identifier) ∷ []
-report (Unread f) =
-    says "verdict" "unread" ∷ says "text" (textName (f .text)) ∷ counts "number" (f .number) ∷ counts "line" (f .line) ∷ []
+report v = let figure : ℕ → ℕ = λ i. getD (numbersOf v) i 0 in reportOf (figure 0) figure
+
+-- "Each on its own line in that order": the bytes of a line end with byte 10.
+unfoldable pub lineBytes : Line → List ℕ
+lineBytes (says key word) = bytes key ++ bytes "=" ++ bytes word ++ 10 ∷ []
+lineBytes (counts key n) = bytes key ++ bytes "=" ++ decimalOf n ++ 10 ∷ []
+
+unfoldable pub linesBytes : List Line → List ℕ
+linesBytes [] = []
+linesBytes (line ∷ lines) = lineBytes line ++ linesBytes lines
+
+unfoldable pub printed : Verdict → List ℕ
+printed v = linesBytes (report v)

@@ -17,6 +17,13 @@ fn print_run(answers: &[u8], count: usize, state: State, fault: bool, line: u64)
     printout::print_state(state);
 }
 
+// The verdict as judge prints it.
+fn print_verdict(verdict: Verdict) {
+    let mut out = [0u8; 64];
+    let n = report::write_verdict(verdict, &mut out);
+    console::print(&out[0..n]);
+}
+
 // The run of an accepted pair, else the verdict.
 fn print_verdict_or_run(
     verdict: Verdict,
@@ -29,7 +36,7 @@ fn print_verdict_or_run(
     if let Verdict::Accepted = verdict {
         print_run(answers, count, state, fault, line);
     } else {
-        report::print_verdict(verdict);
+        print_verdict(verdict);
     }
 }
 

@@ -7,15 +7,16 @@ use Rattle.rules.specs.declared.Breach.{Breach}
 use Rattle.rules.specs.declared.Part.{Part}
 use Rattle.rules.specs.declared.Verdict.{Verdict}
 use Rattle.rules.specs.declared.Verdict.the-variants.{Broken, Unread}
-use Rattle.words.specs.Words.{textNumber, verdictWords, partWords}
+use Rattle.rules.specs.Judge.{textNumber, numbersOf}
+use Rattle.words.specs.Words.{partWords}
 
-pub broken-words : (v : Verdict) (b : Breach) → v ≡ Broken b → (1 ∷ b .rule ∷ b .first ∷ b .second ∷ b .identifier ∷ []) ≡ verdictWords v
-unfolding verdictWords
-broken-words v b e = ap verdictWords (sym e)
+pub broken-words : (v : Verdict) (b : Breach) → v ≡ Broken b → (1 ∷ b .rule ∷ b .first ∷ b .second ∷ b .identifier ∷ []) ≡ numbersOf v
+unfolding numbersOf
+broken-words v b e = ap numbersOf (sym e)
 
-pub unread-words : (v : Verdict) (f : Fault) (n : ℕ) → v ≡ Unread f → n ≡ textNumber (f .text) → (2 ∷ n ∷ f .number ∷ f .line ∷ 0 ∷ []) ≡ verdictWords v
-unfolding verdictWords
-unread-words v f n e q = ap (λ (n : ℕ). 2 ∷ n ∷ f .number ∷ f .line ∷ 0 ∷ []) q ∙ ap verdictWords (sym e)
+pub unread-words : (v : Verdict) (f : Fault) (n : ℕ) → v ≡ Unread f → n ≡ textNumber (f .text) → (2 ∷ n ∷ f .number ∷ f .line ∷ 0 ∷ []) ≡ numbersOf v
+unfolding numbersOf
+unread-words v f n e q = ap (λ (n : ℕ). 2 ∷ n ∷ f .number ∷ f .line ∷ 0 ∷ []) q ∙ ap numbersOf (sym e)
 
 pub part-words : (p : Part) (n w : ℕ) → n ≡ textNumber (p .text) → w ≡ n → (w ∷ p .start ∷ p .end ∷ []) ≡ partWords p
 unfolding partWords

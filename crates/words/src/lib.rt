@@ -3,7 +3,8 @@ use rules::Part;
 use rules::Text;
 use rules::Verdict;
 ghost use mathlib.Core.Path.{_≡_};
-ghost use Rattle.words.specs.Words.{textNumber, verdictWords, partWords};
+ghost use Rattle.rules.specs.Judge.{textNumber, numbersOf};
+ghost use Rattle.words.specs.Words.{partWords};
 
 fn text_number(text: Text) -> u32
     ensures { λ r. ⌜ r ≡ textNumber text ⌝ }
@@ -16,7 +17,7 @@ fn text_number(text: Text) -> u32
 
 // Unread, broken or accepted.
 pub fn verdict_words(verdict: Verdict) -> [u32; 5]
-    ensures { λ r. ⌜ r ≡ verdictWords verdict ⌝ }
+    ensures { λ r. ⌜ r ≡ numbersOf verdict ⌝ }
 {
     match verdict {
         Verdict::Accepted => [0, 0, 0, 0, 0],

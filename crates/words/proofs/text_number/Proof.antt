@@ -1,6 +1,6 @@
 -- By the text.
 use mathlib.Core.Path.{sym, ap}
-use Rattle.words.specs.Words.{textNumber}
+use Rattle.rules.specs.Judge.{textNumber}
 use borrow.Author.Needs.{needs}
 use Rattle.words.proofs.text_number.Statement.{statement}
 use Rattle.words.proofs.text_number.Tie as tie

@@ -1,6 +1,6 @@
 -- By the verdict.
 use mathlib.Core.Path.{sym, ap}
-use Rattle.words.specs.Words.{verdictWords}
+use Rattle.rules.specs.Judge.{numbersOf}
 use Rattle.words.proofs.Words.{broken-words, unread-words}
 use borrow.Author.Needs.{needs}
 use Rattle.words.proofs.verdict_words.Statement.{statement}
@@ -34,8 +34,8 @@ cast-t11 : tie.Need-cast-t11
 cast-t11 c = search needs
 
 returns : tie.Need-returns
-unfolding verdictWords
-returns c = ap verdictWords (sym (c .enum-told .given .1))
+unfolding numbersOf
+returns c = ap numbersOf (sym (c .enum-told .given .1))
 
 returns-2 : tie.Need-returns-2
 returns-2 c = search broken-words
