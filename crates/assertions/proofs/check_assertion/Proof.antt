@@ -4,14 +4,20 @@ use borrow.Author.Needs.{needs}
 use Rattle.assertions.proofs.check_assertion.Statement.{statement}
 use Rattle.assertions.proofs.check_assertion.Tie as tie
 
-labels-of-requires : tie.Need-labels-of-requires
-labels-of-requires c κs = search needs
+template-at-requires : tie.Need-template-at-requires
+template-at-requires c κs = search needs
+
+template-at-requires-2 : tie.Need-template-at-requires-2
+template-at-requires-2 c κs = search needs
 
 enum-told : tie.Need-enum-told
 enum-told c = search needs
 
 find-kept-requires : tie.Need-find-kept-requires
 find-kept-requires c κs = search needs
+
+wearables-requires : tie.Need-wearables-requires
+wearables-requires c κs = search needs
 
 some-serves-requires : tie.Need-some-serves-requires
 some-serves-requires c κs = search needs
@@ -35,9 +41,11 @@ pub check-assertion-spec : {M : Type 1} → statement M
 check-assertion-spec =
     tie.close
     (tie.spec
-    labels-of-requires
+    template-at-requires
+    template-at-requires-2
     enum-told
     find-kept-requires
+    wearables-requires
     some-serves-requires
     returns
     enum-told-2

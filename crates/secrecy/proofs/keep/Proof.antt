@@ -1,8 +1,8 @@
 -- By the mask of declass.
-use Rattle.assertions.proofs.Wearing.{keep-whole, keep-less}
+use Rattle.secrecy.proofs.Wearing.{keep-whole, keep-less}
 use borrow.Author.Needs.{needs}
-use Rattle.assertions.proofs.keep.Statement.{statement}
-use Rattle.assertions.proofs.keep.Tie as tie
+use Rattle.secrecy.proofs.keep.Statement.{statement}
+use Rattle.secrecy.proofs.keep.Tie as tie
 
 contains-u64-requires : tie.Need-contains-u64-requires
 contains-u64-requires c κs = search needs

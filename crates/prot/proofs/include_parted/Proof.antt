@@ -1,9 +1,9 @@
 -- One law for each way out.
 use borrow.Author.Tests.{not-true, not-false}
-use Rattle.assertions.proofs.Prot.{unasked, unparted, taken-in}
+use Rattle.prot.proofs.Prot.{unasked, unparted, taken-in}
 use borrow.Author.Needs.{needs}
-use Rattle.assertions.proofs.include_parted.Statement.{statement}
-use Rattle.assertions.proofs.include_parted.Tie as tie
+use Rattle.prot.proofs.include_parted.Statement.{statement}
+use Rattle.prot.proofs.include_parted.Tie as tie
 
 contains-u32-requires : tie.Need-contains-u32-requires
 contains-u32-requires c κs = search needs

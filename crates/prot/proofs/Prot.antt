@@ -24,8 +24,8 @@ use Rattle.rules.specs.declared.Verdict.the-variants.{Accepted}
 use Rattle.rules.specs.Judge.{broken, firstBelow}
 use Rattle.rules.specs.Broken.{tested}
 use Rattle.rules.proofs.Walk.{below-all, below-broken}
-use Rattle.assertions.specs.declared.Labels.{Labels}
-use Rattle.assertions.specs.Lent.{parted, protBy, Picked}
+use Rattle.prot.specs.declared.Labels.{Labels}
+use Rattle.prot.specs.Lent.{parted, protBy, Picked}
 
 -- ---- one identifier that is asked
 

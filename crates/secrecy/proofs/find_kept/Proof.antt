@@ -1,10 +1,10 @@
 -- So far what is kept is in no neg of a template below x outside declass.
 use Prim.Native.Nat.{_-_}
 use native.Mathlib.Omega.{arith}
-use Rattle.assertions.proofs.Wearing.{KeptSoFar, kept-start, kept-room, kept-place, kept-more, kept-end}
+use Rattle.secrecy.proofs.Wearing.{KeptSoFar, kept-start, kept-room, kept-place, kept-more, kept-end}
 use borrow.Author.Needs.{needs}
-use Rattle.assertions.proofs.find_kept.Statement.{statement}
-use Rattle.assertions.proofs.find_kept.Tie as tie
+use Rattle.secrecy.proofs.find_kept.Statement.{statement}
+use Rattle.secrecy.proofs.find_kept.Tie as tie
 
 abbrev Inv-loop : tie.InvT-loop
 Inv-loop worn declass plan n kept₀ x₀ kept x = KeptSoFar plan worn declass n kept x

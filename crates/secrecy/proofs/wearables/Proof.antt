@@ -1,7 +1,7 @@
 -- By the risk.
-use Rattle.assertions.proofs.Wearing.{wearables-risked, wearables-safe}
-use Rattle.assertions.proofs.wearables.Statement.{statement}
-use Rattle.assertions.proofs.wearables.Tie as tie
+use Rattle.secrecy.proofs.Wearing.{wearables-risked, wearables-safe}
+use Rattle.secrecy.proofs.wearables.Statement.{statement}
+use Rattle.secrecy.proofs.wearables.Tie as tie
 
 returns : tie.Need-returns
 returns c = search wearables-risked

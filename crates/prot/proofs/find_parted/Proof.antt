@@ -1,11 +1,11 @@
 -- So far the identifiers below t are found.
 use Prim.Native.Nat.{_-_}
 use native.Mathlib.Omega.{arith}
-use Rattle.assertions.specs.Lent.{parted}
-use Rattle.assertions.proofs.Prot.{FoundSoFar, found-none, found-more, found-end}
+use Rattle.prot.specs.Lent.{parted}
+use Rattle.prot.proofs.Prot.{FoundSoFar, found-none, found-more, found-end}
 use borrow.Author.Needs.{needs}
-use Rattle.assertions.proofs.find_parted.Statement.{statement}
-use Rattle.assertions.proofs.find_parted.Tie as tie
+use Rattle.prot.proofs.find_parted.Statement.{statement}
+use Rattle.prot.proofs.find_parted.Tie as tie
 
 abbrev Inv-loop : tie.InvT-loop
 Inv-loop first second creates forks asked a limit found₀ t₀ found t = FoundSoFar asked (parted first second creates forks a) limit found t

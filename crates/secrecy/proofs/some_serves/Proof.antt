@@ -1,20 +1,17 @@
 -- So far none serves.
 use Prim.Native.Nat.{_-_}
 use native.Mathlib.Omega.{arith}
-use Rattle.assertions.specs.Lent.{joined}
-use Rattle.assertions.proofs.Serving.{NoneServes, none-start, none-room, none-more, one-serves, none-serves}
+use Rattle.secrecy.specs.Lent.{joined}
+use Rattle.secrecy.proofs.Serving.{NoneServes, none-start, none-room, none-more, one-serves, none-serves}
 use borrow.Author.Needs.{needs}
-use Rattle.assertions.proofs.some_serves.Statement.{statement}
-use Rattle.assertions.proofs.some_serves.Tie as tie
+use Rattle.secrecy.proofs.some_serves.Statement.{statement}
+use Rattle.secrecy.proofs.some_serves.Tie as tie
 
 abbrev Inv-loop : tie.InvT-loop
-Inv-loop first second creates forks kept labels a n t₀ t = NoneServes (labels .limit) kept (labels .risked) (joined first second creates forks a) n t
+Inv-loop first second creates forks kept risked limit a n t₀ t = NoneServes limit kept risked (joined first second creates forks a) n t
 
 abbrev μ-loop : tie.MeasureT-loop
-μ-loop first second creates forks kept labels a n t₀ t = n - t
-
-cast-capped : tie.Need-cast-capped Inv-loop μ-loop
-cast-capped c = search needs
+μ-loop first second creates forks kept risked limit a n t₀ t = n - t
 
 capped-requires : tie.Need-capped-requires Inv-loop μ-loop
 capped-requires c κs = search needs
@@ -49,7 +46,6 @@ some-serves-spec =
     (tie.spec
     Inv-loop
     μ-loop
-    cast-capped
     capped-requires
     loop-holds
     cast-identifier-serves

@@ -1,8 +1,8 @@
 -- By the lowest offender: 32 where there is none, past the limit, or below it.
-use Rattle.assertions.proofs.Prot.{prot-none, prot-past, prot-found}
+use Rattle.prot.proofs.Prot.{prot-none, prot-past, prot-found}
 use borrow.Author.Needs.{needs}
-use Rattle.assertions.proofs.check_prot.Statement.{statement}
-use Rattle.assertions.proofs.check_prot.Tie as tie
+use Rattle.prot.proofs.check_prot.Statement.{statement}
+use Rattle.prot.proofs.check_prot.Tie as tie
 
 difference-requires : tie.Need-difference-requires
 difference-requires c κs = search needs

@@ -1,8 +1,8 @@
--- An assertion's labels as the code gathers them, and the identifiers of a label that no template outside Declass may
--- remove: the turns of the loop over the templates.
+-- What a template may wear, by its risk; and the identifiers of a label that no template outside Declass may remove: the
+-- turns of the loop over the templates.
 use Prim.Native.Nat.{ℕ, _+_, _≤_, _<_, min}
 use mathlib.Core.Path.{_≡_, refl, sym, ap, _∙_}
-use mathlib.Core.Bool.{Bool, true, false, not, cond, _&&_, _||_, or-true, or-false}
+use mathlib.Core.Bool.{Bool, true, false, not, cond, _&&_, _||_, or-true}
 use mathlib.Core.List.{map}
 use native.Mathlib.Omega.{arith}
 use mir.Syntax.{w8}
@@ -12,17 +12,14 @@ use lib.ListN.{length, getD}
 use Rattle.lists.specs.Numbers.{every}
 use Rattle.lists.proofs.Every.{every-none, every-acc, every-capped}
 use Rattle.mask.specs.Mask.{has, without}
-use Rattle.mask.proofs.Items.{has-none, has-or, has-without}
+use Rattle.mask.proofs.Items.{has-none, has-without}
 use Rattle.plan.specs.declared.Template.{Template}
 use Rattle.plan.specs.declared.Plan.{Plan}
-use Rattle.plan.specs.declared.Assertion.{Assertion}
 use Rattle.plan.specs.Plan.{blank, at}
 use Rattle.plan.proofs.Places.{template-past}
-use Rattle.rules.specs.Judge.{wearable}
-use Rattle.assertions.specs.declared.Labels.{Labels}
-use Rattle.assertions.specs.Lent.{keeps, wearables, labelsOf}
+use Rattle.secrecy.specs.Lent.{keeps, wearables}
 
--- ---- the labels
+-- ---- one label
 
 pub wearables-risked : (X : Template) → X .risk ≡ true → bitOr (X .lab) (X .pos) ≡ wearables X
 unfolding wearables
@@ -31,25 +28,6 @@ wearables-risked X e = sym (ap (λ (b : Bool). cond b (bitOr (X .lab) (X .pos)) 
 pub wearables-safe : (X : Template) → X .risk ≡ false → X .lab ≡ wearables X
 unfolding wearables
 wearables-safe X e = sym (ap (λ (b : Bool). cond b (bitOr (X .lab) (X .pos)) (X .lab)) e)
-
--- The mask says what the test says.
-pub wearables-are : (plan : Plan) (X t : ℕ) → has t (wearables (at plan X)) ≡ wearable plan X t
-unfolding wearables wearable
-wearables-are plan X t = go (at plan X .risk)
-  where
-    go : (b : Bool) → has t (cond b (bitOr (at plan X .lab) (at plan X .pos)) (at plan X .lab)) ≡ (has t (at plan X .lab) || (b && has t (at plan X .pos)))
-    go true = has-or t (at plan X .lab) (at plan X .pos)
-    go false = sym (or-false (has t (at plan X .lab)))
-
-pub labels-are : (plan : Plan) (a : Assertion) (source sink : Template) (m : ℕ) → source ≡ at plan (a .source) → sink ≡ at plan (a .sink) → m ≡ wearables sink
-    → _≡_ {A = Labels} (record { limit = plan .identifiers; source = source .lab; sink = sink .lab; risked = m }) (labelsOf plan a)
-unfolding labelsOf
-labels-are plan a source sink m e h k i = record {
-  limit = plan .identifiers;
-  source = e i .lab;
-  sink = h i .lab;
-  risked = (k ∙ ap wearables h) i;
-}
 
 -- ---- one template
 

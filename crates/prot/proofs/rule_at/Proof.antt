@@ -1,8 +1,8 @@
 -- By the label.
-use Rattle.assertions.proofs.Prot.{rule-18, rule-19}
+use Rattle.prot.proofs.Prot.{rule-18, rule-19}
 use borrow.Author.Needs.{needs}
-use Rattle.assertions.proofs.rule_at.Statement.{statement}
-use Rattle.assertions.proofs.rule_at.Tie as tie
+use Rattle.prot.proofs.rule_at.Statement.{statement}
+use Rattle.prot.proofs.rule_at.Tie as tie
 
 contains-u32-requires : tie.Need-contains-u32-requires
 contains-u32-requires c κs = search needs

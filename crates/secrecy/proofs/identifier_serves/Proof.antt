@@ -1,9 +1,9 @@
 -- One law for each way out.
 use borrow.Author.Tests.{not-true, not-false}
-use Rattle.assertions.proofs.Serving.{serves-lost, serves-unworn, serves-apart}
+use Rattle.secrecy.proofs.Serving.{serves-lost, serves-unworn, serves-apart}
 use borrow.Author.Needs.{needs}
-use Rattle.assertions.proofs.identifier_serves.Statement.{statement}
-use Rattle.assertions.proofs.identifier_serves.Tie as tie
+use Rattle.secrecy.proofs.identifier_serves.Statement.{statement}
+use Rattle.secrecy.proofs.identifier_serves.Tie as tie
 
 contains-u32-requires : tie.Need-contains-u32-requires
 contains-u32-requires c κs = search needs

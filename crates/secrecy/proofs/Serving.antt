@@ -1,5 +1,4 @@
--- Rule 17's test over what is lent, one law for each way out; the loop over the identifiers; and over the plan's own
--- layout and labels it is the test of Judge.antt.
+-- Rule 17's test over what is lent, one law for each way out; and the loop over the identifiers.
 use Prim.Native.Nat.{ℕ, _+_, _^_, _≤_, _<_, min}
 use mathlib.Core.Path.{_≡_, sym, ap, ap₂, _∙_}
 use mathlib.Core.Bool.{Bool, true, false, not, _&&_, _||_}
@@ -14,7 +13,7 @@ use Rattle.mask.proofs.Width.{has-past}
 use Rattle.plan.specs.declared.Assertion.{Assertion}
 use Rattle.route.specs.Search.{collect, sharesOver}
 use Rattle.route.specs.Layout.{madeBy, laidOut}
-use Rattle.assertions.specs.Lent.{joined, servesBy}
+use Rattle.secrecy.specs.Lent.{joined, servesBy}
 
 -- ---- one identifier
 
