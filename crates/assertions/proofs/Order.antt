@@ -34,6 +34,12 @@ use Rattle.prot.specs.Lent.{parted, protBy}
 
 -- ---- one assertion
 
+pub served : (v w : Verdict) (b : Bool) → b ≡ true → v ≡ cond b v w
+served v w b f = sym (ap (λ (c : Bool). cond c v w) f)
+
+pub unserved : (v w : Verdict) (b : Bool) → b ≡ false → w ≡ cond b v w
+unserved v w b f = sym (ap (λ (c : Bool). cond c v w) f)
+
 -- The mask says what the test says.
 wearables-are : (plan : Plan) (X t : ℕ) → has t (wearables (at plan X)) ≡ wearable plan X t
 unfolding wearables wearable
@@ -67,19 +73,12 @@ module _ (plan : Plan) (place : ℕ) (a : Assertion) (first second masks : List 
         ∙ and-again (has t (at plan (a .source) .lab)) (every (plan .count) (keeps plan (a .declass) t))
         (not (wearable plan (a .sink) t) || not (sharesTag plan t (a .source) (a .sink) (a .anc)))
 
-    module _ (b : Bool) (q : b ≡ any (plan .identifiers) (servesBy kept risked (joined first second masks forks a))) where
-      abbrev verdict : Bool → Verdict
-      verdict c = cond c Accepted (broken 17 place (a .sink) 255)
-
-      asked : checkAssertion plan place a (a .kind) ≡ verdict b
-      unfolding checkAssertion
-      asked = ap (checkAssertion plan place a) kind ∙ ap verdict (sym (q ∙ ap (any (plan .identifiers)) (fun-ext serves-is)))
-
-      pub secrecy-kept : b ≡ true → Accepted ≡ checkAssertion plan place a (a .kind)
-      secrecy-kept f = sym (asked ∙ ap verdict f)
-
-      pub secrecy-17 : b ≡ false → broken 17 place (a .sink) 255 ≡ checkAssertion plan place a (a .kind)
-      secrecy-17 f = sym (asked ∙ ap verdict f)
+    pub secrecy-kind : (b : Bool) → b ≡ any (plan .identifiers) (servesBy kept risked (joined first second masks forks a))
+        → (v : Verdict) → v ≡ cond b Accepted (broken 17 place (a .sink) 255) → v ≡ checkAssertion plan place a (a .kind)
+    unfolding checkAssertion
+    secrecy-kind b q v r =
+        r ∙ ap (λ (c : Bool). cond c Accepted (broken 17 place (a .sink) 255)) (q ∙ ap (any (plan .identifiers)) (fun-ext serves-is))
+        ∙ sym (ap (checkAssertion plan place a) kind)
 
   abbrev labels : Template → Template → Labels
   labels S K = record { limit = plan .identifiers; source = S .lab; sink = K .lab }

@@ -8,8 +8,25 @@ use prot::Labels;
 use rules::Breach;
 use rules::Verdict;
 ghost use mathlib.Core.Path.{_≡_};
+ghost use mathlib.Core.Bool.{cond};
 ghost use Rattle.route.specs.Layout.{Laid};
-ghost use Rattle.rules.specs.Judge.{checkAssertion, checkAssertions};
+ghost use Rattle.rules.specs.declared.Verdict.the-variants.{Accepted};
+ghost use Rattle.rules.specs.Judge.{broken, checkAssertion, checkAssertions};
+
+// 17 of a secrecy, by whether some identifier serves.
+fn verdict_17(served: bool, place: u8, sink: u8) -> Verdict
+    ensures { λ r. ⌜ r ≡ cond served Accepted (broken 17 place sink 255) ⌝ }
+{
+    if served {
+        return Verdict::Accepted;
+    }
+    Verdict::Broken(Breach {
+        rule: 17,
+        first: place,
+        second: sink,
+        identifier: 255,
+    })
+}
 
 // The assertion at a place, by its kind.
 fn check_assertion<'a>(
@@ -31,24 +48,18 @@ fn check_assertion<'a>(
         Kind::Secrecy => {
             let kept = secrecy::find_kept(plan, source.lab, a.declass);
             let risked = secrecy::wearables(sink);
-            if secrecy::some_serves(
+            let limit = plan.identifiers;
+            let served = secrecy::some_serves(
                 first,
                 second,
                 creates,
                 forks,
                 kept,
                 risked,
-                plan.identifiers,
+                limit,
                 a,
-            ) {
-                return Verdict::Accepted;
-            }
-            Verdict::Broken(Breach {
-                rule: 17,
-                first: place,
-                second: a.sink,
-                identifier: 255,
-            })
+            );
+            verdict_17(served, place, a.sink)
         }
         Kind::Prot => {
             let labels = Labels {

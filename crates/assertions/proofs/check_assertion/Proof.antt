@@ -1,5 +1,5 @@
 -- By the kind, which is that of the arm.
-use Rattle.assertions.proofs.Order.{secrecy-kept, secrecy-17, prot-kind}
+use Rattle.assertions.proofs.Order.{secrecy-kind, prot-kind}
 use borrow.Author.Needs.{needs}
 use Rattle.assertions.proofs.check_assertion.Statement.{statement}
 use Rattle.assertions.proofs.check_assertion.Tie as tie
@@ -22,8 +22,8 @@ wearables-requires c κs = search needs
 some-serves-requires : tie.Need-some-serves-requires
 some-serves-requires c κs = search needs
 
-returns : tie.Need-returns
-returns c = search secrecy-kept
+verdict-17-requires : tie.Need-verdict-17-requires
+verdict-17-requires c κs = search needs
 
 enum-told-2 : tie.Need-enum-told-2
 enum-told-2 c = search needs
@@ -31,11 +31,11 @@ enum-told-2 c = search needs
 check-prot-requires : tie.Need-check-prot-requires
 check-prot-requires c κs = search needs
 
-returns-2 : tie.Need-returns-2
-returns-2 c = search secrecy-17
+returns : tie.Need-returns
+returns c = search secrecy-kind
 
-returns-3 : tie.Need-returns-3
-returns-3 c = search prot-kind
+returns-2 : tie.Need-returns-2
+returns-2 c = search prot-kind
 
 pub check-assertion-spec : {M : Type 1} → statement M
 check-assertion-spec =
@@ -47,8 +47,8 @@ check-assertion-spec =
     find-kept-requires
     wearables-requires
     some-serves-requires
-    returns
+    verdict-17-requires
     enum-told-2
     check-prot-requires
-    returns-2
-    returns-3)
+    returns
+    returns-2)
