@@ -1,7 +1,7 @@
 -- One assertion by its kind, over the plan's layout and labels: what was found is what Judge.antt asks. And the loop over
 -- all assertions.
 use Prim.Native.Nat.{ℕ, _+_, _≤_, _<_, min}
-use mathlib.Core.Path.{_≡_, refl, sym, ap, ap₂, subst, _∙_, fun-ext}
+use mathlib.Core.Path.{_≡_, refl, sym, ap, subst, _∙_, fun-ext}
 use mathlib.Core.Bool.{Bool, true, false, not, cond, _&&_, _||_, or-false}
 use mathlib.Core.List.{List, map}
 use native.Mathlib.Omega.{arith}
@@ -34,6 +34,7 @@ use Rattle.prot.specs.Lent.{parted, protBy}
 
 -- ---- one assertion
 
+-- Rule 17's verdict, one law for each way out.
 pub served : (v w : Verdict) (b : Bool) → b ≡ true → v ≡ cond b v w
 served v w b f = sym (ap (λ (c : Bool). cond c v w) f)
 

@@ -1,5 +1,5 @@
-// Rules 17 to 19 over a plan and a policy. The layout for the routes is made once and lent to both kinds of assertion; each makes its
-// own searches over it.
+// Rules 17 to 19 over a plan and a policy. The layout for the routes is made once and lent to both kinds of assertion; each
+// makes its own searches over it.
 use plan::Assertion;
 use plan::Kind;
 use plan::Plan;

@@ -1,5 +1,5 @@
-// Rule 17 over the lent layout of a plan: the identifiers that a secrecy may rest on, and whether one of them serves. Joined is asked
-// only where the labels leave the question open.
+// Rule 17 over the lent layout of a plan: the identifiers that a secrecy may rest on, and whether one of them serves.
+// Joined is asked only where the labels leave the question open.
 use plan::Assertion;
 use plan::Plan;
 use plan::Template;
