@@ -1,15 +1,18 @@
 -- One assertion by its kind, over the plan's layout and labels: what was found is what Judge.antt asks. And the loop over
 -- all assertions.
 use Prim.Native.Nat.{ℕ, _+_, _≤_, _<_, min}
-use mathlib.Core.Path.{_≡_, refl, sym, ap, ap₂, subst, _∙_, fun-ext}
-use mathlib.Core.Bool.{Bool, true, false, not, cond, _&&_, _||_}
+use mathlib.Core.Path.{_≡_, refl, sym, ap, subst, _∙_, fun-ext}
+use mathlib.Core.Bool.{Bool, true, false, not, cond, _&&_, _||_, or-false}
 use mathlib.Core.List.{List, map}
 use native.Mathlib.Omega.{arith}
 use mir.Syntax.{w8}
 use mir.Val.{Fits}
+use lib.Bits.{bitOr}
 use lib.ListN.{length}
 use Rattle.lists.specs.Numbers.{every, any}
 use Rattle.mask.specs.Mask.{has}
+use Rattle.mask.proofs.Items.{has-or}
+use Rattle.plan.specs.declared.Template.{Template}
 use Rattle.plan.specs.declared.Plan.{Plan}
 use Rattle.plan.specs.declared.Kind.the-variants.{Secrecy, Prot}
 use Rattle.plan.specs.declared.Assertion.{Assertion}
@@ -24,14 +27,31 @@ use Rattle.rules.specs.declared.Verdict.the-variants.{Accepted}
 use Rattle.rules.specs.Judge.{broken, firstBelow, serves, checkProt, checkAssertion, checkAssertions, wearable}
 use Rattle.rules.specs.Broken.{accepted}
 use Rattle.rules.proofs.Walk.{broken-accepted, accepted-is, below-none, below-more, below-leaves, below-alike}
-use Rattle.assertions.specs.declared.Labels.{Labels}
-use Rattle.assertions.specs.Lent.{keeps, labelsOf, joined, parted, servesBy, protBy}
-use Rattle.assertions.proofs.Wearing.{and-again, wearables-are}
+use Rattle.secrecy.specs.Lent.{keeps, wearables, joined, servesBy}
+use Rattle.secrecy.proofs.Wearing.{and-again}
+use Rattle.prot.specs.declared.Labels.{Labels}
+use Rattle.prot.specs.Lent.{parted, protBy}
 
 -- ---- one assertion
 
+-- Rule 17's verdict, one law for each way out.
+pub served : (v w : Verdict) (b : Bool) → b ≡ true → v ≡ cond b v w
+served v w b f = sym (ap (λ (c : Bool). cond c v w) f)
+
+pub unserved : (v w : Verdict) (b : Bool) → b ≡ false → w ≡ cond b v w
+unserved v w b f = sym (ap (λ (c : Bool). cond c v w) f)
+
+-- The mask says what the test says.
+wearables-are : (plan : Plan) (X t : ℕ) → has t (wearables (at plan X)) ≡ wearable plan X t
+unfolding wearables wearable
+wearables-are plan X t = go (at plan X .risk)
+  where
+    go : (b : Bool) → has t (cond b (bitOr (at plan X .lab) (at plan X .pos)) (at plan X .lab)) ≡ (has t (at plan X .lab) || (b && has t (at plan X .pos)))
+    go true = has-or t (at plan X .lab) (at plan X .pos)
+    go false = sym (or-false (has t (at plan X .lab)))
+
 module _ (plan : Plan) (place : ℕ) (a : Assertion) (first second masks : List ℕ) (forks : ℕ) (laid : Laid plan first second masks forks)
-    (labels : Labels) (e : labels ≡ labelsOf plan a) where
+    (source sink : Template) (e : source ≡ at plan (a .source)) (h : sink ≡ at plan (a .sink)) where
   abbrev J : ℕ → Bool
   J = joined first second masks forks a
 
@@ -43,39 +63,33 @@ module _ (plan : Plan) (place : ℕ) (a : Assertion) (first second masks : List 
   unfolding parted
   parted-is t = splits-laid plan _ laid t (a .source) (a .sink) (a .anc)
 
-  module _ (kind : a .kind ≡ Secrecy) (kept : ℕ)
-      (lasts : (t : ℕ) → has t kept ≡ (has t (labels .source) && every (plan .count) (keeps plan (a .declass) t))) where
-    serves-is : (t : ℕ) → servesBy kept (labels .risked) J t ≡ serves plan a t
-    unfolding servesBy serves keeps labelsOf
+  module _ (kind : a .kind ≡ Secrecy) (kept risked : ℕ)
+      (lasts : (t : ℕ) → has t kept ≡ (has t (source .lab) && every (plan .count) (keeps plan (a .declass) t)))
+      (worn : risked ≡ wearables sink) where
+    serves-is : (t : ℕ) → servesBy kept risked J t ≡ serves plan a t
+    unfolding servesBy serves keeps
     serves-is t =
-        (λ i. (lasts t ∙ ap (λ (l : Labels). has t (l .source) && every (plan .count) (keeps plan (a .declass) t)) e) i
-        && (not ((ap (λ (l : Labels). has t (l .risked)) e ∙ wearables-are plan (a .sink) t) i) || not (joined-is t i)))
+        (λ i. (lasts t ∙ ap (λ (X : Template). has t (X .lab) && every (plan .count) (keeps plan (a .declass) t)) e) i
+        && (not ((ap (has t) (worn ∙ ap wearables h) ∙ wearables-are plan (a .sink) t) i) || not (joined-is t i)))
         ∙ and-again (has t (at plan (a .source) .lab)) (every (plan .count) (keeps plan (a .declass) t))
         (not (wearable plan (a .sink) t) || not (sharesTag plan t (a .source) (a .sink) (a .anc)))
 
-    tried : any (labels .limit) (servesBy kept (labels .risked) J) ≡ any (plan .identifiers) (serves plan a)
-    unfolding labelsOf
-    tried = ap₂ any (ap (λ (l : Labels). l .limit) e) (fun-ext serves-is)
+    pub secrecy-kind : (b : Bool) → b ≡ any (plan .identifiers) (servesBy kept risked (joined first second masks forks a))
+        → (v : Verdict) → v ≡ cond b Accepted (broken 17 place (a .sink) 255) → v ≡ checkAssertion plan place a (a .kind)
+    unfolding checkAssertion
+    secrecy-kind b q v r =
+        r ∙ ap (λ (c : Bool). cond c Accepted (broken 17 place (a .sink) 255)) (q ∙ ap (any (plan .identifiers)) (fun-ext serves-is))
+        ∙ sym (ap (checkAssertion plan place a) kind)
 
-    module _ (b : Bool) (q : b ≡ any (labels .limit) (servesBy kept (labels .risked) (joined first second masks forks a))) where
-      abbrev verdict : Bool → Verdict
-      verdict c = cond c Accepted (broken 17 place (a .sink) 255)
+  abbrev labels : Template → Template → Labels
+  labels S K = record { limit = plan .identifiers; source = S .lab; sink = K .lab }
 
-      asked : checkAssertion plan place a (a .kind) ≡ verdict b
-      unfolding checkAssertion
-      asked = ap (checkAssertion plan place a) kind ∙ ap verdict (sym (q ∙ tried))
-
-      pub secrecy-kept : b ≡ true → Accepted ≡ checkAssertion plan place a (a .kind)
-      secrecy-kept f = sym (asked ∙ ap verdict f)
-
-      pub secrecy-17 : b ≡ false → broken 17 place (a .sink) 255 ≡ checkAssertion plan place a (a .kind)
-      secrecy-17 f = sym (asked ∙ ap verdict f)
-
-  pub prot-kind : a .kind ≡ Prot → (v : Verdict) → v ≡ firstBelow (labels .limit) (protBy labels place a (parted first second masks forks a))
+  pub prot-kind : a .kind ≡ Prot → (v : Verdict)
+      → v ≡ firstBelow (plan .identifiers) (protBy (record { limit = plan .identifiers; source = source .lab; sink = sink .lab }) place a (parted first second masks forks a))
       → v ≡ checkAssertion plan place a (a .kind)
-  unfolding checkAssertion checkProt labelsOf protBy
-  prot-kind k v h =
-      h ∙ ap₂ (λ (l : Labels) (parts : ℕ → Bool). firstBelow (l .limit) (protBy l place a parts)) e (fun-ext parted-is) ∙ sym (ap (checkAssertion plan place a) k)
+  unfolding checkAssertion checkProt protBy
+  prot-kind k v q =
+      q ∙ (λ i. firstBelow (plan .identifiers) (protBy (labels (e i) (h i)) place a (fun-ext parted-is i))) ∙ sym (ap (checkAssertion plan place a) k)
 
 -- ---- all assertions
 

@@ -1,0 +1,2 @@
+pub mod Wearing
+pub mod Serving
