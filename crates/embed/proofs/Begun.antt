@@ -17,7 +17,8 @@ use Rattle.planrow.specs.Row.{planOfRow, rowOfPlan}
 use Rattle.planrow.proofs.RoundTrip.{none-means}
 use Rattle.monitor.proofs.Starting.{accepted-means}
 use Rattle.words.specs.Words.{verdictWords}
-use Rattle.memory.specs.Memory.{held, machineIn}
+use Rattle.playback.specs.Playback.{machineIn}
+use Rattle.memory.specs.Memory.{held}
 use Rattle.embed.specs.Embed.{Starts}
 
 module _ (planText policyText : List ℕ) where

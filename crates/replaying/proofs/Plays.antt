@@ -1,25 +1,30 @@
 -- What play leaves, as the code meets it: s is the state that it got, and row the one that it lent.
-use Prim.Native.Nat.{ℕ, _/_, min}
+use Prim.Native.Nat.{ℕ}
 use mathlib.Core.Path.{_≡_, refl, subst}
 use mathlib.Core.List.{List}
-use lib.ListN.{length}
 use Rattle.planrow.specs.Row.{rowOfPlan}
 use Rattle.planrow.specs.Lookup.{planFor}
 use Rattle.machine.specs.declared.State.{State}
-use Rattle.machine.specs.State.{Cells, machineFrom, cellsOf}
+use Rattle.machine.specs.Machine.{Call, boxLimits}
+use Rattle.machine.specs.State.{machineFrom, cellsOf}
 use Rattle.monitor.proofs.Kept.{rebuilt}
-use Rattle.playback.specs.Playback.{Played}
-use Rattle.replaying.specs.Playing.{PlayedOn}
+use Rattle.promise.specs.Replay.{machineAfter}
+use Rattle.playback.specs.Playback.{Memory, memory, machineIn, PlayedAll}
+use Rattle.playback.proofs.Through.{played-along}
+use Rattle.replaying.specs.Playing.{machineOn, PlayedOn}
 
-pub plays-on : (s : State) (words before row : List ℕ) → row ≡ rowOfPlan (s .plan)
-    → (n : ℕ) → n ≡ min (length words / 3) (length before) → (next live : ℕ) (d : Cells) (after : List ℕ)
-    → Played (machineFrom (planFor row) (s .next) (s .live) (cellsOf s)) n words before (machineFrom (planFor row) next live d) after
-    → PlayedOn s words before n (rebuilt s next live d) after
-plays-on s words before row er n en next live d after p =
+pub plays-on : (s : State) (words before row : List ℕ) → row ≡ rowOfPlan (s .plan) → (n : ℕ) (left : Memory) (after : List ℕ)
+    → PlayedAll (machineIn (planFor row)) words (memory (s .next) (s .live) (s .serials) (s .templates) (s .labels) (s .tags)) before n left after
+    → PlayedOn s words before n (rebuilt s (left .next) (left .live) (left .cells)) after
+unfolding machineIn
+plays-on s words before row er n left after p =
+    let met = memory (s .next) (s .live) (s .serials) (s .templates) (s .labels) (s .tags) in
+    let q = subst (λ (row : List ℕ). PlayedAll (machineIn (planFor row)) words met before n left after) er p in
     record {
-      counted = en;
       same-plan = refl;
-      played =
-          subst (λ (row : List ℕ). Played (machineFrom (planFor row) (s .next) (s .live) (cellsOf s)) n words before (machineFrom (planFor row) next live d) after)
-          er p;
+      played = record {
+        counted = q .counted;
+        played = played-along (machineIn (planFor (rowOfPlan (s .plan)))) (machineOn (s .plan)) (λ m. rebuilt s (m .next) (m .live) (m .cells)) (λ m. refl)
+            _ (machineAfter boxLimits (machineOn (s .plan) s)) (λ (calls : List Call). refl) n words met before left after (q .played);
+      };
     }

@@ -15,13 +15,17 @@ use Rattle.rules.specs.declared.Verdict.the-variants.{Accepted, Broken, Unread}
 use Rattle.rules.specs.Judge.{judge}
 use Rattle.rules.specs.Broken.{accepted}
 use Rattle.machine.specs.declared.State.{State}
-use Rattle.machine.specs.Machine.{Machine, start}
+use Rattle.machine.specs.Machine.{Machine, Call, boxLimits, start}
 use Rattle.machine.specs.State.{machineFrom, cellsOf, machineOf, blankState, startOn, started}
 use Rattle.monitor.proofs.Starting.{is-accepted, not-accepted, accepted-row}
-use Rattle.promise.specs.Replay.{callsIn}
+use Rattle.monitor.proofs.Kept.{rebuilt}
+use Rattle.promise.specs.History.{worldAfter}
+use Rattle.promise.specs.Replay.{machineAfter, callsIn}
 use Rattle.promise.proofs.Promise.{box-promise}
 use Rattle.playback.specs.Playback.{Played, playable, Replays}
-use Rattle.replaying.specs.Playing.{PlayedOn}
+use Rattle.playback.proofs.Through.{played-along}
+use Rattle.playback.proofs.Machines.{world-machine}
+use Rattle.replaying.specs.Playing.{machineOn, PlayedOn}
 
 none-playable : (v : Verdict) → v ≢ Accepted → (words places : ℕ) → 0 ≡ playable v words places
 unfolding playable
@@ -61,16 +65,42 @@ module _ (planText policyText words before : List ℕ) (v : Verdict) (s : State)
   unfolding playable machineOf
   replays-so h n left after p =
       let a : v ≡ Accepted = is-accepted v (sym eg ∙ not-false g h) in
-      let q : Played (machineOf s) n words before (machineFrom (s .plan) (left .next) (left .live) (cellsOf left)) after =
-      subst (λ (plan : Plan). Played (machineFrom plan (s .next) (s .live) (cellsOf s)) n words before (machineFrom plan (left .next) (left .live) (cellsOf left)) after)
-      (same-plan a) (p .played) in
-      let q′ : Played (machineOf s) n words before (machineOf left) after =
-      subst (λ (plan : Plan). Played (machineOf s) n words before (machineFrom plan (left .next) (left .live) (cellsOf left)) after)
-      (sym (p .same-plan)) q in
       record {
         judged = w .0;
-        counted = p .counted ∙ ap (λ (v : Verdict). playable v (length words) (length before)) (sym a);
-        played = λ a. subst (λ (m : Machine). Played m n words before (machineOf left) after) (begun a) q′;
+        counted = p .played .counted ∙ ap (λ (v : Verdict). playable v (length words) (length before)) (sym a);
+        played = λ a declass. (
+          s,
+          begun a,
+          subst (λ (left : State). Played machineOf (reached declass) n words s before left after) same-left
+              (played-along (machineOn (s .plan)) machineOf over (over-means a) _ (reached declass) (reaches declass a) n words s before left after (p .played .played)),
+        );
         promised = λ a. box-promise planText policyText (sym (w .0) ∙ a) (callsIn n words);
         untouched = λ o. absurd (o a);
       }
+    where
+      reached : ℕ → List Call → Machine
+      reached declass calls = worldAfter boxLimits (readPlan planText .plan) declass calls .machine
+
+      -- The state's plan beside another state's figures and cells.
+      over : State → State
+      over t = rebuilt s (t .next) (t .live) (cellsOf t)
+
+      over-means : v ≡ Accepted → (t : State) → machineOf (over t) ≡ machineOn (s .plan) t
+      over-means a t = ap (λ (plan : Plan). machineFrom plan (t .next) (t .live) (cellsOf t)) (sym (same-plan a))
+
+      same-left : over left ≡ left
+      same-left = λ i. record {
+        plan = sym (p .same-plan) i;
+        next = left .next;
+        live = left .live;
+        serials = left .serials;
+        templates = left .templates;
+        labels = left .labels;
+        tags = left .tags;
+      }
+
+      -- The world's machine is the one that the calls lead to from the state.
+      reaches : (declass : ℕ) → v ≡ Accepted → (calls : List Call) → reached declass calls ≡ machineAfter boxLimits (machineOn (s .plan) s) calls
+      reaches declass a calls =
+          world-machine boxLimits declass (readPlan planText .plan) calls
+          ∙ ap (λ (m : Machine). machineAfter boxLimits m calls) (sym (begun a) ∙ over-means a s)
