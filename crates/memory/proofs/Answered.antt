@@ -1,51 +1,29 @@
 -- What calls on the lent memory answer, as the code meets it.
 use Prim.Native.Nat.{ℕ}
-use mathlib.Core.Path.{_≡_, refl, sym, ap, _∙_, subst}
+use mathlib.Core.Path.{_≡_, refl, ap, _∙_, subst}
 use mathlib.Core.Bool.{false}
-use mathlib.Core.List.{List, [], _∷_}
+use mathlib.Core.List.{List}
 use mathlib.Core.Option.{Option, none, some}
-use native.Mathlib.Omega.{arith}
-use lib.ListN.{length, getD, set, length-set}
-use lib.Seq.{getD-set-same, getD-set-other}
 use Rattle.plan.specs.declared.Plan.{Plan}
 use Rattle.planrow.specs.Row.{planOfRow}
 use Rattle.planrow.specs.Lookup.{planFor}
 use Rattle.planrow.proofs.Fits.{unfit-not}
 use Rattle.planrow.proofs.Lookup.{stands-for, means-none}
-use Rattle.machine.specs.declared.Answer.the-variants.{Refused}
 use Rattle.machine.specs.Machine.{Machine, Outcome, Limits, Call, step, send, raise, lower, boxLimits, planFits, run}
 use Rattle.machine.specs.State.{Cells, unlessDone, codeOf}
-use Rattle.machine.proofs.Outcomes.{outcome}
 use Rattle.machine.proofs.Told.{send-stays}
 use Rattle.population.specs.declared.Settled.{Settled}
 use Rattle.population.specs.Lent.{LabelsAlone as Lent, unlessStep, Did}
-use Rattle.population.proofs.Lent.{run-unfit}
-use Rattle.promise.specs.Replay.{machineAfter, callAt, callsIn}
-use Rattle.playback.specs.Playback.{Memory, machineIn, Through, begun, onward, PlayedAll}
+use Rattle.promise.specs.Replay.{callAt, callsIn}
+use Rattle.playback.specs.Playback.{Memory, machineIn, PlayedAll}
+use Rattle.playback.proofs.Unfit.{unfit, unfit-kept, unfit-after, unfit-through}
 use Rattle.playback.proofs.Runs.{withCells, did-kept}
 use Rattle.memory.specs.Memory.{LabelsAlone, Touches, Answers, AllRefused, Runs}
 
--- ---- a plan that does not fit
+-- ---- the row
 
--- A row that means no plan stands for one of which every call is 20, so that nothing is touched.
+-- A row that means no plan stands for one that does not fit.
 module _ (plan : Plan) (f : planFits plan ≡ false) where
-  unfit : (m : Memory) (call : Call) → run boxLimits (machineIn plan m) call ≡ outcome (Refused 20) (machineIn plan m)
-  unfolding machineIn
-  unfit m call = run-unfit plan (m .next) (m .live) (m .cells) call f
-
-  unfit-kept : (m : Memory) (call : Call) (P : Type 0) → unlessDone (run boxLimits (machineIn plan m) call .answer) P → P
-  unfolding unlessDone
-  unfit-kept m call P u = subst (λ (o : Outcome). unlessDone (o .answer) P) (unfit m call) u
-
-  unfit-after : (m : Memory) (calls : List Call) → machineAfter boxLimits (machineIn plan m) calls ≡ machineIn plan m
-  unfolding machineAfter
-  unfit-after m [] = refl
-  unfit-after m (call ∷ rest) = ap (λ (o : Outcome). machineAfter boxLimits (o .machine) rest) (unfit m call) ∙ unfit-after m rest
-
-  unfit-through : (call : ℕ → Call) (met : Memory) {n : ℕ} {left : Memory} → Through (machineIn plan) call met n left → left ≡ met
-  unfit-through call met begun = refl
-  unfit-through call met (onward {n = n} {met = a} {left = b} t e u) = unfit-kept a (call n) (b ≡ a) u ∙ unfit-through call met t
-
   unfit-runs : (words : List ℕ) (met : Memory) (places : List ℕ) (n : ℕ) (left : Memory) (filled : List ℕ)
       → PlayedAll (machineIn plan) words met places n left filled → Runs none words met places n left filled
   unfolding Runs codeOf
@@ -54,14 +32,12 @@ module _ (plan : Plan) (f : planFits plan ≡ false) where
     record {
       each = λ j h.
           w .played .each j h
-          ∙ ap (λ (m : Machine). codeOf (run boxLimits m (callAt words j) .answer)) (unfit-after met (callsIn j words))
-          ∙ ap (λ (o : Outcome). codeOf (o .answer)) (unfit met (callAt words j));
+          ∙ ap (λ (m : Machine). codeOf (run boxLimits m (callAt words j) .answer)) (unfit-after plan f met (callsIn j words))
+          ∙ ap (λ (o : Outcome). codeOf (o .answer)) (unfit plan f met (callAt words j));
       rest = w .played .rest;
     },
-    unfit-through (callAt words) met (w .played .through),
+    unfit-through plan f (callAt words) met (w .played .through),
   )
-
--- ---- the row
 
 -- What the row that the code works on stands for answers as the plan that it means, or as none.
 module _ (row : List ℕ) where

@@ -70,10 +70,10 @@ playable (Unread f) words places = 0
 pub record Replays (planText policyText words before : List ℕ) (verdict : Verdict) (count : ℕ) (state : State) (after : List ℕ) : Type 0 where
   pub judged : verdict ≡ judge planText policyText
   pub counted : count ≡ playable verdict (length words) (length before)
-  pub played : verdict ≡ Accepted → (declass : ℕ)
+  pub played : verdict ≡ Accepted
       → let plan = readPlan planText .plan in
       (met : State) × (machineOf met ≡ start plan)
-      × Played machineOf (λ calls. worldAfter boxLimits plan declass calls .machine) count words met before state after
+      × ((declass : ℕ) → Played machineOf (λ calls. worldAfter boxLimits plan declass calls .machine) count words met before state after)
   pub promised : verdict ≡ Accepted
       → let plan = readPlan planText .plan in
       Promised boxLimits plan (readPolicy (plan .count) policyText .policy) (callsIn count words)
