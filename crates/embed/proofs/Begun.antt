@@ -17,7 +17,7 @@ use Rattle.planrow.specs.Row.{planOfRow, rowOfPlan}
 use Rattle.planrow.proofs.RoundTrip.{none-means}
 use Rattle.monitor.proofs.Starting.{accepted-means}
 use Rattle.words.specs.Words.{verdictWords}
-use Rattle.playback.specs.Playback.{machineIn}
+use Rattle.playback.specs.Running.{machineIn}
 use Rattle.memory.specs.Memory.{held}
 use Rattle.embed.specs.Embed.{Starts}
 

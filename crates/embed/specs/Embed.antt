@@ -11,7 +11,8 @@ use Rattle.rules.specs.declared.Verdict.the-variants.{Accepted}
 use Rattle.rules.specs.Judge.{judge}
 use Rattle.machine.specs.declared.State.{State}
 use Rattle.machine.specs.State.{started}
-use Rattle.playback.specs.Playback.{Memory, memory, machineIn, Replays}
+use Rattle.playback.specs.Playback.{Replays}
+use Rattle.playback.specs.Running.{Memory, memory, machineIn}
 use Rattle.planrow.specs.Row.{planOfRow, rowOfPlan}
 use Rattle.words.specs.Words.{verdictWords}
 

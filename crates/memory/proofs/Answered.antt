@@ -15,7 +15,7 @@ use Rattle.machine.proofs.Told.{send-stays}
 use Rattle.population.specs.declared.Settled.{Settled}
 use Rattle.population.specs.Lent.{LabelsAlone as Lent, unlessStep, Did}
 use Rattle.promise.specs.Replay.{callAt, callsIn}
-use Rattle.playback.specs.Playback.{Memory, machineIn, PlayedAll}
+use Rattle.playback.specs.Running.{Memory, machineIn, PlayedAll}
 use Rattle.playback.proofs.Unfit.{unfit, unfit-kept, unfit-after, unfit-through}
 use Rattle.playback.proofs.Runs.{withCells, did-kept}
 use Rattle.memory.specs.Memory.{LabelsAlone, Touches, Answers, AllRefused, Runs}

@@ -8,7 +8,7 @@ use lib.ListN.{length, getD}
 use Rattle.plan.specs.declared.Plan.{Plan}
 use Rattle.machine.specs.Machine.{Call, step, send, raise, lower, boxLimits, run}
 use Rattle.machine.specs.State.{unlessDone, codeOf}
-use Rattle.playback.specs.Playback.{Memory, memory, machineIn, PlayedAll}
+use Rattle.playback.specs.Running.{Memory, memory, machineIn, PlayedAll}
 
 -- ---- the lent memory
 

@@ -15,7 +15,8 @@ use Rattle.machine.proofs.Outcomes.{unless-so}
 use Rattle.population.specs.declared.Settled.{Settled}
 use Rattle.population.specs.Lent.{Same, Did}
 use Rattle.promise.specs.Replay.{machineAfter, callAt, callsIn}
-use Rattle.playback.specs.Playback.{Memory, machineIn, Through, begun, onward, Played, PlayedAll}
+use Rattle.playback.specs.Playback.{Through, begun, onward, Played}
+use Rattle.playback.specs.Running.{Memory, machineIn, PlayedAll}
 use Rattle.playback.proofs.Through.{through-machine}
 
 -- The memory with its arrays in one.

@@ -12,7 +12,8 @@ use Rattle.machine.specs.Machine.{Machine, Call, boxLimits, run}
 use Rattle.machine.specs.State.{unlessDone, codeOf}
 use Rattle.machine.proofs.Outcomes.{unless-so}
 use Rattle.promise.specs.Replay.{machineAfter, callAt, callsIn}
-use Rattle.playback.specs.Playback.{Through, begun, onward, Played, PlayedAll}
+use Rattle.playback.specs.Playback.{Through, begun, onward, Played}
+use Rattle.playback.specs.Running.{PlayedAll}
 
 -- ---- the machine
 

@@ -10,7 +10,8 @@ use Rattle.machine.specs.State.{unlessDone}
 use Rattle.machine.proofs.Outcomes.{outcome}
 use Rattle.population.proofs.Lent.{run-unfit}
 use Rattle.promise.specs.Replay.{machineAfter}
-use Rattle.playback.specs.Playback.{Memory, machineIn, Through, begun, onward}
+use Rattle.playback.specs.Playback.{Through, begun, onward}
+use Rattle.playback.specs.Running.{Memory, machineIn}
 
 module _ (plan : Plan) (f : planFits plan ≡ false) where
   pub unfit : (m : Memory) (call : Call) → run boxLimits (machineIn plan m) call ≡ outcome (Refused 20) (machineIn plan m)

@@ -1,39 +1,19 @@
 -- What a list of calls leaves, the answers in a lent row of numbers; and what replay hands back, with the box promise.
--- Believed: everything here. Proved against it: crates playback, replaying, memory and embed.
+-- Believed: everything here. Proved against it: crates playback and replaying.
 use Prim.Native.Nat.{ℕ, suc, _/_, min, _≤_, _<_}
 use mathlib.Core.{Path.{_≡_}, Logic.{_≢_}, List.{List}}
 use lib.ListN.{length, getD}
-use Rattle.plan.specs.declared.Plan.{Plan}
 use Rattle.text.specs.Reading.{readPlan, readPolicy}
 use Rattle.rules.specs.{declared.Verdict.{Verdict, the-variants.{Accepted, Broken, Unread}}, Judge.{judge}}
 use Rattle.machine.specs.declared.State.{State}
 use Rattle.machine.specs.Machine.{Machine, Call, boxLimits, run, start}
-use Rattle.machine.specs.State.{Cells, machineFrom, machineOf, blankState, unlessDone, codeOf}
-use Rattle.promise.specs.{History.{worldAfter}, Promise.{Promised}, Replay.{machineAfter, callAt, callsIn}}
-
--- ---- the memory that calls are run on
-
--- Beside a plan: the next serial, the number of live processes and the four arrays, unused places too.
-pub record Memory : Type 0 where
-  pub next : ℕ
-  pub live : ℕ
-  pub cells : Cells
-
-abbrev pub memory : ℕ → ℕ → List ℕ → List ℕ → List ℕ → List ℕ → Memory
-memory next live serials templates labels tags = record {
-  next = next;
-  live = live;
-  cells = record { serials = serials; templates = templates; labels = labels; tags = tags };
-}
-
--- The machine that it means.
-unfoldable pub machineIn : Plan → Memory → Machine
-machineIn plan m = machineFrom plan (m .next) (m .live) (m .cells)
+use Rattle.machine.specs.State.{machineOf, blankState, unlessDone, codeOf}
+use Rattle.promise.specs.{History.{worldAfter}, Promise.{Promised}, Replay.{callAt, callsIn}}
 
 -- ---- a list of calls
 
--- The first n calls led from the memory `before` to `left`: what each left means the machine's own outcome, and unless
--- the call was done, it is the very memory that the call met.
+-- The first n calls led from the memory `before` to `left`: what each call left means the machine's own outcome, and unless
+-- the call was done it is the very memory that it met, unused places too: "a refused call hands on the state it got".
 pub data Through {A : Type 0} (means : A → Machine) (call : ℕ → Call) (before : A) : ℕ → A → Type 0 where
   begun : Through means call before 0 before
   onward : {n : ℕ} {met left : A} → Through means call before n met
@@ -49,11 +29,6 @@ pub record Played {A : Type 0} (means : A → Machine) (reached : List Call → 
   pub through : Through means (callAt words) met n left
   pub each : (j : ℕ) → j < n → getD after j 0 ≡ codeOf (run boxLimits (reached (callsIn j words)) (callAt words j) .answer)
   pub rest : (j : ℕ) → n ≤ j → getD after j 0 ≡ getD before j 0
-
--- As many calls as there are words and places for were played from the machine that the memory means.
-pub record PlayedAll {A : Type 0} (means : A → Machine) (words : List ℕ) (met : A) (before : List ℕ) (count : ℕ) (left : A) (after : List ℕ) : Type 0 where
-  pub counted : count ≡ min (length words / 3) (length before)
-  pub played : Played means (machineAfter boxLimits (means met)) count words met before left after
 
 -- ---- replay
 

@@ -6,7 +6,7 @@ ghost use Prim.Native.Nat.{_≤_, _*_, _/_, min};
 ghost use lib.ListN.{length};
 ghost use Rattle.planrow.specs.Lookup.{planFor};
 ghost use Rattle.machine.specs.State.{codeOf};
-ghost use Rattle.playback.specs.Playback.{memory, machineIn, PlayedAll};
+ghost use Rattle.playback.specs.Running.{memory, machineIn, PlayedAll};
 
 // What a list of calls leaves beside the arrays, and how many calls were run.
 pub struct Place {

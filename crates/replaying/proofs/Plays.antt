@@ -14,7 +14,7 @@ use Rattle.machine.specs.Machine.{Machine, Outcome, Call, boxLimits, planFits, 
 use Rattle.machine.specs.State.{processesOf, machineFrom, machineOf, unlessDone}
 use Rattle.machine.proofs.Alike.{Alike, onPlan, outcomeOn, run-alike}
 use Rattle.monitor.proofs.Kept.{rebuilt}
-use Rattle.playback.specs.Playback.{Memory, memory, machineIn, PlayedAll}
+use Rattle.playback.specs.Running.{Memory, memory, machineIn, PlayedAll}
 use Rattle.playback.proofs.Through.{played-along}
 use Rattle.playback.proofs.Unfit.{unfit, unfit-kept}
 

@@ -18,7 +18,8 @@ use Rattle.monitor.proofs.Starting.{is-accepted, not-accepted}
 use Rattle.promise.specs.History.{worldAfter}
 use Rattle.promise.specs.Replay.{machineAfter, callsIn}
 use Rattle.promise.proofs.Promise.{box-promise}
-use Rattle.playback.specs.Playback.{playable, PlayedAll, Replays}
+use Rattle.playback.specs.Playback.{playable, Replays}
+use Rattle.playback.specs.Running.{PlayedAll}
 use Rattle.playback.proofs.Through.{played-told}
 use Rattle.playback.proofs.Machines.{world-machine}
 

@@ -2,7 +2,8 @@
 use machine::State;
 use rules::Verdict;
 ghost use Rattle.machine.specs.State.{machineOf};
-ghost use Rattle.playback.specs.Playback.{PlayedAll, Replays};
+ghost use Rattle.playback.specs.Playback.{Replays};
+ghost use Rattle.playback.specs.Running.{PlayedAll};
 
 // What a list of calls leaves of a state, and how many calls were played. The state comes first, as in machine::Answered.
 pub struct Ran {

@@ -3,7 +3,7 @@
 use Prim.Native.Nat.{_-_}
 use borrow.Author.Needs.{needs}
 use Rattle.planrow.specs.Lookup.{planFor}
-use Rattle.playback.specs.Playback.{memory}
+use Rattle.playback.specs.Running.{memory}
 use Rattle.playback.proofs.Runs.{Stands, stands-none, stands-on, played}
 use Rattle.playback.proofs.run_calls.Statement.{statement}
 use Rattle.playback.proofs.run_calls.Tie as tie
