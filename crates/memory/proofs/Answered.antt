@@ -18,7 +18,7 @@ use Rattle.promise.specs.Replay.{callAt, callsIn}
 use Rattle.playback.specs.Running.{Memory, machineIn, PlayedAll}
 use Rattle.playback.proofs.Unfit.{unfit, unfit-kept, unfit-after, unfit-through}
 use Rattle.playback.proofs.Runs.{withCells, did-kept}
-use Rattle.memory.specs.Memory.{LabelsAlone, Touches, Answers, AllRefused, Runs}
+use Rattle.memory.specs.Memory.{LabelsAlone, Touches, Answers, Runs}
 
 -- ---- the row
 

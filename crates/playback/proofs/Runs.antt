@@ -1,5 +1,5 @@
 -- Laws of a list of calls on lent arrays, as the code meets them.
-use Prim.Native.Nat.{ℕ, suc, _+_, _/_, min, _≤_, _<_}
+use Prim.Native.Nat.{ℕ, _+_, _/_, min, _≤_, _<_}
 use mathlib.Core.Path.{_≡_, refl, sym, ap, _∙_, subst}
 use mathlib.Core.List.{List}
 use native.Mathlib.Nat.{not-suc-le-zero}
@@ -15,7 +15,7 @@ use Rattle.machine.proofs.Outcomes.{unless-so}
 use Rattle.population.specs.declared.Settled.{Settled}
 use Rattle.population.specs.Lent.{Same, Did}
 use Rattle.promise.specs.Replay.{machineAfter, callAt, callsIn}
-use Rattle.playback.specs.Playback.{Through, begun, onward, Played}
+use Rattle.playback.specs.Playback.{Through, begun, onward}
 use Rattle.playback.specs.Running.{Memory, machineIn, PlayedAll}
 use Rattle.playback.proofs.Through.{through-machine}
 

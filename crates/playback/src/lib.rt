@@ -3,7 +3,6 @@ use machine::Answer;
 use planrow::WORDS;
 ghost use mathlib.Core.Path.{_≡_};
 ghost use Prim.Native.Nat.{_≤_, _*_, _/_, min};
-ghost use lib.ListN.{length};
 ghost use Rattle.planrow.specs.Lookup.{planFor};
 ghost use Rattle.machine.specs.State.{codeOf};
 ghost use Rattle.playback.specs.Running.{memory, machineIn, PlayedAll};
