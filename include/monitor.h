@@ -140,15 +140,17 @@ static inline uint32_t monitor_lower(const uint32_t row[MONITOR_ROW_WORDS], uint
 }
 
 /* Runs a list of calls, three words each (kind, then its two numbers), through the state, and writes one answer to a
- * byte. It plays min(words / 3, places) calls and returns that number; a refused call changes nothing, and the list goes
- * on. Where the row means no plan each of those answers is 20.                                                        */
+ * byte. It plays min(words / 3, places) calls and returns that number; answers past them stay as they were. A refused call
+ * and a send leave neither place nor array other than they met them, and the list goes on. Where the row means no plan each
+ * of those answers is 20, and nothing else is changed.                                                                */
 size_t monitor_run(const uint32_t row[MONITOR_ROW_WORDS], uint32_t place[MONITOR_PLACE_WORDS],
                    uint32_t serials[MONITOR_PROCESSES], uint32_t templates[MONITOR_PROCESSES],
                    uint32_t labels[MONITOR_PROCESSES], uint32_t tags[MONITOR_TAGS], const uint32_t *calls,
                    size_t words, uint8_t *answers, size_t places);
 
 /* Judges the two texts, starts the box and runs the calls through it; writes the verdict and the answers, and returns how
- * many calls were played: 0 where not accepted, and then no answer is written. The box promise holds after them.      */
+ * many calls were played: 0 where not accepted, and then no answer is written. The box promise holds after them, of the
+ * very run that gave the answers.                                                                                     */
 size_t monitor_replay(const uint8_t *plan, size_t plan_len, const uint8_t *policy, size_t policy_len,
                       const uint32_t *calls, size_t words, uint8_t *answers, size_t places,
                       uint32_t verdict[MONITOR_VERDICT_WORDS]);

@@ -16,7 +16,8 @@ use Rattle.machine.specs.State.{Cells, machineFrom, machineOf, blankState, star
 use Rattle.planrow.specs.Row.{planOfRow, rowOfPlan}
 use Rattle.planrow.proofs.RoundTrip.{none-means}
 use Rattle.monitor.proofs.Starting.{accepted-means}
-use Rattle.memory.specs.Memory.{held, machineIn}
+use Rattle.playback.specs.Running.{machineIn}
+use Rattle.memory.specs.Memory.{held}
 use Rattle.embed.specs.Embed.{Starts}
 
 module _ (planText policyText : List ℕ) where

@@ -6,38 +6,28 @@ use mathlib.Core.List.{List}
 use mathlib.Core.Option.{Option, none, some}
 use lib.ListN.{length, getD}
 use Rattle.plan.specs.declared.Plan.{Plan}
-use Rattle.machine.specs.Machine.{Machine, Call, step, send, raise, lower, boxLimits, run}
-use Rattle.machine.specs.State.{Cells, machineFrom, unlessDone, codeOf}
-use Rattle.playback.specs.Playback.{Played}
+use Rattle.machine.specs.Machine.{Call, step, send, raise, lower, boxLimits, run}
+use Rattle.machine.specs.State.{unlessDone, codeOf}
+use Rattle.playback.specs.Running.{Memory, memory, machineIn, PlayedAll}
 
 -- ---- the lent memory
 
--- Beside the plan's row: next serial and number of live processes in one, and the four arrays.
-pub record Held : Type 0 where
-  pub place : List ℕ
-  pub cells : Cells
-
-abbrev pub held : List ℕ → List ℕ → List ℕ → List ℕ → List ℕ → Held
-held place serials templates labels tags = record {
-  place = place;
-  cells = record { serials = serials; templates = templates; labels = labels; tags = tags };
-}
-
--- The machine that it means, beside a plan.
-unfoldable pub machineIn : Plan → Held → Machine
-machineIn plan h = machineFrom plan (getD (h .place) 0 0) (getD (h .place) 1 0) (h .cells)
+-- What the place, next serial and number of live processes in one, and the four arrays hold.
+abbrev pub held : List ℕ → List ℕ → List ℕ → List ℕ → List ℕ → Memory
+held place serials templates labels tags = memory (getD place 0 0) (getD place 1 0) serials templates labels tags
 
 -- ---- one call
 
 -- Nothing but the labels was touched.
-pub record LabelsAlone (before after : Held) : Type 0 where
-  pub place : after .place ≡ before .place
+pub record LabelsAlone (before after : Memory) : Type 0 where
+  pub next : after .next ≡ before .next
+  pub live : after .live ≡ before .live
   pub serials : after .cells .serials ≡ before .cells .serials
   pub templates : after .cells .templates ≡ before .cells .templates
   pub tags : after .cells .tags ≡ before .cells .tags
 
 -- What a call may touch, whatever it answers: of a send "the state stays".
-unfoldable pub Touches : Call → Held → Held → Type 0
+unfoldable pub Touches : Call → Memory → Memory → Type 0
 Touches (step s branch) before after = Prim.Unit
 Touches (send from to) before after = after ≡ before
 Touches (raise s i) before after = LabelsAlone before after
@@ -45,7 +35,7 @@ Touches (lower s i) before after = LabelsAlone before after
 
 -- Where the row means that plan or none, the call met `before`, gave the number `code` and left `after`.
 -- No plan: 20, and nothing is touched. Else the machine's answer and the machine; nothing is touched unless it is done.
-unfoldable pub Answers : Option Plan → Call → Held → ℕ → Held → Type 0
+unfoldable pub Answers : Option Plan → Call → Memory → ℕ → Memory → Type 0
 Answers none call before code after = (code ≡ 20) × (after ≡ before)
 Answers (some plan) call before code after =
     let outcome = run boxLimits (machineIn plan before) call in
@@ -61,8 +51,7 @@ pub record AllRefused (n : ℕ) (before after : List ℕ) : Type 0 where
 
 -- The calls in the words met `before` and a row of places for answers; so many were played, and left `after` and the
 -- answers. No plan: each is 20, and nothing else is touched.
-unfoldable pub Runs : Option Plan → List ℕ → Held → List ℕ → ℕ → Held → List ℕ → Type 0
+unfoldable pub Runs : Option Plan → List ℕ → Memory → List ℕ → ℕ → Memory → List ℕ → Type 0
 Runs none words before places count after filled =
     (count ≡ min (length words / 3) (length places)) × AllRefused count places filled × (after ≡ before)
-Runs (some plan) words before places count after filled =
-    (count ≡ min (length words / 3) (length places)) × Played (machineIn plan before) count words places (machineIn plan after) filled
+Runs (some plan) words before places count after filled = PlayedAll (machineIn plan) words before places count after filled

@@ -1,21 +1,9 @@
 // Calls on the memory that a program in another language lends: a plan's row, whatever it means, and a box's place and
 // arrays.
 use planrow::WORDS;
-ghost use mathlib.Core.Path.{_≡_};
-ghost use Prim.Native.Nat.{_/_, min};
-ghost use lib.ListN.{length, set};
 ghost use Rattle.machine.specs.State.{callOf};
 ghost use Rattle.planrow.specs.Row.{planOfRow};
-ghost use Rattle.memory.specs.Memory.{held, Answers, AllRefused, Runs};
-
-// The two words of a place.
-fn store(place: &mut [u32], next: u32, live: u32)
-    requires { ⌜ length (now place) ≡ 2 ⌝ }
-    ensures { λ _. ⌜ (now (place .exit) ≡ set (set (now (place .entry)) 0 next) 1 live) × (length (now (place .entry)) ≡ 2) ⌝ }
-{
-    place[0] = next;
-    place[1] = live;
-}
+ghost use Rattle.memory.specs.Memory.{held, Answers, Runs};
 
 // One call on a plan's row and the lent state.
 pub fn call<'a>(
@@ -49,21 +37,8 @@ pub fn call<'a>(
         y,
     );
     let answer = r.answer;
-    store(place, r.next, r.live);
+    *place = [r.next, r.live];
     playback::code_of(answer) as u32
-}
-
-// 20 for each call of a row that means no plan.
-fn refuse_all(words: usize, answers: &mut [u8]) -> usize
-    ensures { λ r. ⌜ (r ≡ min (words / 3) (length (now (answers .entry)))) × AllRefused r (now (answers .entry)) (now (answers .exit)) ⌝ }
-{
-    let n = playback::call_count(words, answers.len());
-    let mut i: usize = 0;
-    while i < n {
-        answers[i] = population::BAD_STATE;
-        i += 1;
-    }
-    n
 }
 
 // A list of calls, three words each; as many as there are words and places for.
@@ -82,9 +57,6 @@ pub fn run<'a>(
         let k = held (now (place .exit)) (now (serials .exit)) (now (templates .exit)) (now (labels .exit)) (now (tags .exit)) in
         ⌜ Runs (planOfRow (now (row .entry))) (now (calls .entry)) h (now (answers .entry)) r k (now (answers .exit)) ⌝ }
 {
-    if !planrow::is_plan(row) {
-        return refuse_all(calls.len(), answers);
-    }
     let next = place[0];
     let live = place[1];
     let ran = playback::run_calls(
@@ -98,6 +70,6 @@ pub fn run<'a>(
         calls,
         answers,
     );
-    store(place, ran.next, ran.live);
+    *place = [ran.next, ran.live];
     ran.count
 }

@@ -1,2 +1,4 @@
+pub mod Through
+pub mod Unfit
 pub mod Runs
 pub mod Machines

@@ -1,1 +1,2 @@
 pub mod Playback
+pub mod Running

@@ -3,11 +3,9 @@ use machine::Answer;
 use planrow::WORDS;
 ghost use mathlib.Core.Path.{_≡_};
 ghost use Prim.Native.Nat.{_≤_, _*_, _/_, min};
-ghost use lib.ListN.{length};
 ghost use Rattle.planrow.specs.Lookup.{planFor};
-ghost use Rattle.machine.specs.State.{machineFrom, codeOf};
-ghost use Rattle.population.specs.Arrays.{cells};
-ghost use Rattle.playback.specs.Playback.{Played};
+ghost use Rattle.machine.specs.State.{codeOf};
+ghost use Rattle.playback.specs.Running.{memory, machineIn, PlayedAll};
 
 // What a list of calls leaves beside the arrays, and how many calls were run.
 pub struct Place {
@@ -49,10 +47,9 @@ pub fn run_calls<'a>(
     answers: &'a mut [u8],
 ) -> Place
     ensures { λ r.
-        let plan = planFor (now (row .entry)) in
-        let c = cells (now (serials .entry)) (now (templates .entry)) (now (labels .entry)) (now (tags .entry)) in
-        let d = cells (now (serials .exit)) (now (templates .exit)) (now (labels .exit)) (now (tags .exit)) in
-        ⌜ (r .count ≡ min (length (now (calls .entry)) / 3) (length (now (answers .entry)))) × Played (machineFrom plan next live c) (r .count) (now (calls .entry)) (now (answers .entry)) (machineFrom plan (r .next) (r .live) d) (now (answers .exit)) ⌝ }
+        let met = memory next live (now (serials .entry)) (now (templates .entry)) (now (labels .entry)) (now (tags .entry)) in
+        let left = memory (r .next) (r .live) (now (serials .exit)) (now (templates .exit)) (now (labels .exit)) (now (tags .exit)) in
+        ⌜ PlayedAll (machineIn (planFor (now (row .entry)))) (now (calls .entry)) met (now (answers .entry)) (r .count) left (now (answers .exit)) ⌝ }
 {
     let n = call_count(calls.len(), answers.len());
     let mut z = next;

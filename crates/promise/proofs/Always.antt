@@ -12,7 +12,8 @@ use Rattle.plan.specs.Plan.{at}
 use Rattle.plan.specs.Range.{InRange}
 use Rattle.rules.specs.Rules.{EveryRule, Serves, Rules18-19}
 use Rattle.machine.specs.declared.Answer.the-variants.{Refused}
-use Rattle.machine.specs.Machine.{Limits, Call, step, send, wellFormed, answerTo, start}
+use Rattle.machine.specs.Machine.{Limits, Call, step, send, wellFormed, answerTo, run, start}
+use Rattle.machine.specs.State.{codeOf}
 use Rattle.machine.proofs.Outcomes.{refused-number, run-either, run-answers}
 use Rattle.machine.proofs.Sending.{worn, delivered}
 use Rattle.machine.proofs.Live.{population}
@@ -25,6 +26,7 @@ use Rattle.promise.proofs.Knowledge.{Guarded, guarded-hear}
 use Rattle.promise.proofs.Calls.{machineWith, Property, Preserved, always}
 use Rattle.promise.proofs.Events.{family-step, guarded-step, family-hear, family-move, guarded-move}
 use Rattle.promise.proofs.Opening.{family-opening, guarded-opening}
+use Rattle.promise.proofs.Codes.{refused-tells}
 use Rattle.promise.proofs.Secrecy.{secret}
 use Rattle.promise.proofs.Delivery.{passing}
 use Rattle.promise.proofs.Steps.{not-25}
@@ -107,6 +109,7 @@ pub delivers-always : (plan : Plan) (a : Assertion)
     → ((t : ℕ) → t < plan .identifiers → has t (at plan (a .source) .lab) ≡ true → Rules18-19 plan a t)
     → (limits : Limits) → Sensible limits → wellFormed limits (start plan) ≡ true → (declass : ℕ) (calls : List Call)
     → Delivers limits a (worldAfter limits plan declass calls)
+unfolding codeOf
 delivers-always plan a asked limits fewer started declass calls x y live-x live-y at-source at-sink differ kin moved-x moved-y =
     let w = worldAfter limits plan declass calls in
     let r = family-always limits plan declass calls in
@@ -114,7 +117,7 @@ delivers-always plan a asked limits fewer started declass calls x y live-x live-
     let q = r .1 .alive y live-y .1 in
     let pass = passing plan a asked (w .machine .next) (population (w .machine .live)) (w .history) (r .1)
     x y live-x live-y at-source at-sink differ kin moved-x moved-y (p .0) (q .0) (p .1) (q .1) in
-    ap (λ o. o .answer) (run-answers limits (w .machine) (send x y) (never-bad limits fewer plan started declass calls)
+    ap (λ o. codeOf (o .answer)) (run-answers limits (w .machine) (send x y) (never-bad limits fewer plan started declass calls)
     ∙ delivered limits (w .machine) x y (p .0) (q .0) (p .1) (q .1) differ (rw (r .0) pass))
 
 -- No step of a process that has not moved its own label is refused over labels.
@@ -123,6 +126,8 @@ pub unhindered-always : (plan : Plan) → InRange plan → (policy : Policy) →
 unhindered-always plan range policy rules limits declass calls s branch unmoved =
     let w = worldAfter limits plan declass calls in
     let r = family-always limits plan declass calls in
+    let never : run limits (w .machine) (step s branch) .answer ≢ Refused 25 =
     run-either limits (w .machine) (step s branch) (λ o. o .answer ≢ Refused 25) (λ e. let z = refused-number 20 25 e in omega arith) (λ _.
     subst (λ (plan′ : Plan). answerTo limits (machineWith plan′ (w .machine .next) (w .machine .live)) (step s branch) .answer ≢ Refused 25) (sym (r .0))
-    (not-25 plan range policy rules (w .machine .next) (w .machine .live) (w .history) (r .1) s unmoved limits branch))
+    (not-25 plan range policy rules (w .machine .next) (w .machine .live) (w .history) (r .1) s unmoved limits branch)) in
+    λ e. never (refused-tells limits (w .machine) (step s branch) 25 (omega arith) e)

@@ -9,6 +9,7 @@ pub mod Growth
 pub mod Events
 pub mod Calls
 pub mod Opening
+pub mod Codes
 pub mod Secrecy
 pub mod Delivery
 pub mod Steps

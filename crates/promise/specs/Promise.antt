@@ -1,4 +1,6 @@
--- The box promise (demand 3): one statement over every list of calls from a started box, whatever the calls name.
+-- The box promise (demand 3): one statement over every list of calls from a started box, whatever the calls name. An
+-- answer is told by its number, `codeOf`: "a definition gives this paper's number and values for each of its cases. The
+-- promises use this definition."
 -- Believed: everything here. Proved with it: crate promise.
 use Prim.Native.Nat.{ℕ, _<_}
 use mathlib.Core.{Path.{_≡_}, Logic.{_≢_}, Bool.{true, false}, List.{List}}
@@ -6,8 +8,8 @@ use Rattle.plan.specs.declared.{Plan.{Plan}, Kind.the-variants.{Secrecy, Prot},
 use Rattle.plan.specs.Plan.{assertionAt}
 use Rattle.text.specs.Reading.{readPlan, readPolicy}
 use Rattle.rules.specs.{declared.Verdict.the-variants.{Accepted}, Judge.{judge}}
-use Rattle.machine.specs.declared.Answer.the-variants.{Delivered, Refused}
 use Rattle.machine.specs.Machine.{Limits, boxLimits, Call, step, send, run}
+use Rattle.machine.specs.State.{codeOf}
 use Rattle.promise.specs.History.{World, Kin, worldAfter}
 
 -- "No Sink process knows a different Source process that is not its kin under Anc."
@@ -16,18 +18,18 @@ Secret a w =
     (p q : ℕ) → w .history p .template ≡ a .source → w .history q .template ≡ a .sink → p ≢ q
     → w .history q .knows p ≡ true → Kin (w .history) (a .anc) p q
 
--- A send from a live Source process to its live kin at Sink is delivered, if neither has moved its own label.
+-- A send from a live Source process to its live kin at Sink is delivered, number 1, if neither has moved its own label.
 abbrev pub Delivers : Limits → Assertion → World → Type 0
 Delivers limits a w =
     (p q : ℕ) → w .history p .live ≡ true → w .history q .live ≡ true
     → w .history p .template ≡ a .source → w .history q .template ≡ a .sink → p ≢ q → Kin (w .history) (a .anc) p q
     → w .history p .moved ≡ false → w .history q .moved ≡ false
-    → run limits (w .machine) (send p q) .answer ≡ Delivered
+    → codeOf (run limits (w .machine) (send p q) .answer) ≡ 1
 
 -- No step of a process that has not moved its own label is refused over labels: "refused over labels means refusal 25".
 abbrev pub Unhindered : Limits → World → Type 0
 Unhindered limits w =
-    (s branch : ℕ) → w .history s .moved ≡ false → run limits (w .machine) (step s branch) .answer ≢ Refused 25
+    (s branch : ℕ) → w .history s .moved ≡ false → codeOf (run limits (w .machine) (step s branch) .answer) ≢ 25
 
 -- What is promised after a list of calls.
 pub record Promised (limits : Limits) (plan : Plan) (policy : Policy) (calls : List Call) : Type 0 where

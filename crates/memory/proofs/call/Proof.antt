@@ -13,9 +13,6 @@ element-copy-out-live c = search needs
 run-call-requires : tie.Need-run-call-requires
 run-call-requires c κs = search needs
 
-store-requires : tie.Need-store-requires
-store-requires c κs = search needs
-
 code-of-requires : tie.Need-code-of-requires
 code-of-requires c κs = search needs
 
@@ -23,7 +20,7 @@ cast-result : tie.Need-cast-result
 cast-result c = search needs
 
 returns : tie.Need-returns
-returns c = answered _ _ _ _ _ _ _ _ (c .before .store .ensures) (c .code-of .ensures) (c .before .before .before .run-call .ensures)
+returns c = answered _ _ _ _ _ _ _ _ (c .code-of .ensures) (c .before .before .run-call .ensures)
 
 pub call-spec : {M : Type 1} → statement M
 call-spec =
@@ -32,7 +29,6 @@ call-spec =
     element-copy-out-next
     element-copy-out-live
     run-call-requires
-    store-requires
     code-of-requires
     cast-result
     returns)

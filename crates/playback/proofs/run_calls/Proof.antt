@@ -1,18 +1,16 @@
--- Before call i the arrays mean the machine that the first i calls leave, and the first i answers are its own.
+-- Before call i the arrays are what the first i calls led through, and the first i answers are the machine's own.
 -- The calls that are left grow fewer.
 use Prim.Native.Nat.{_-_}
 use borrow.Author.Needs.{needs}
-use Rattle.machine.specs.State.{machineFrom}
 use Rattle.planrow.specs.Lookup.{planFor}
-use Rattle.population.specs.Arrays.{cells}
-use Rattle.playback.proofs.Runs.{callAt, Stands, stands-none, stands-on, played}
+use Rattle.playback.specs.Running.{memory}
+use Rattle.playback.proofs.Runs.{Stands, stands-none, stands-on, played}
 use Rattle.playback.proofs.run_calls.Statement.{statement}
 use Rattle.playback.proofs.run_calls.Tie as tie
 
 abbrev Inv-loop : tie.InvT-loop
 Inv-loop row next live serials₀ templates₀ labels₀ tags₀ calls answers₀ n z₀ l₀ i₀ serials templates labels tags answers z l i =
-    Stands (machineFrom (planFor row) next live (cells serials₀ templates₀ labels₀ tags₀)) (callAt calls) n i answers₀
-    (machineFrom (planFor row) z l (cells serials templates labels tags)) answers
+    Stands (planFor row) calls n i answers₀ (memory next live serials₀ templates₀ labels₀ tags₀) (memory z l serials templates labels tags) answers
 
 abbrev μ-loop : tie.MeasureT-loop
 μ-loop row next live serials₀ templates₀ labels₀ tags₀ calls answers₀ n z₀ l₀ i₀ serials templates labels tags answers z l i =
@@ -22,7 +20,7 @@ call-count-requires : tie.Need-call-count-requires Inv-loop μ-loop
 call-count-requires c κs = search needs
 
 loop-holds : tie.Need-loop-holds Inv-loop μ-loop
-loop-holds c = stands-none _ _ _ _
+loop-holds c = stands-none _ _ _ _ _
 
 mul-run-call : tie.Need-mul-run-call Inv-loop μ-loop
 mul-run-call c = search needs
@@ -79,7 +77,7 @@ same-length : tie.Need-same-length Inv-loop μ-loop
 same-length c = search needs
 
 returns : tie.Need-returns Inv-loop μ-loop
-returns c = (search needs, search played)
+returns c = search played
 
 pub run-calls-spec : {M : Type 1} → statement M
 run-calls-spec =

@@ -17,8 +17,7 @@ returns : tie.Need-returns
 returns c =
     let ran = c .before .before in
     let made = ran .before .before .before .before .before .before .before .before .before .before .before in
-    let played = ran .run-calls .ensures in
-    plays-on _ _ _ _ (made .row-of .ensures) _ (played .0) _ _ _ _ (played .1)
+    plays-on _ _ _ _ (made .row-of .ensures) _ _ _ (ran .run-calls .ensures)
 
 pub play-spec : {M : Type 1} → statement M
 play-spec = tie.close (tie.spec row-of-requires run-calls-requires same-length returns)
