@@ -232,6 +232,9 @@ static void lists(void) {
         MONITOR_STEP, 4, 0, 9 /* a word too many */};
     static const uint8_t answers[] = {0, 0, 0, 0, 0, 2, 1, 29, 28, 0, 21};
     static const uint8_t refused[] = {20, 20, 20, 0xEE};
+    static const uint32_t none_done[] = {MONITOR_STEP, 4, 0, MONITOR_SEND, 7, 6, MONITOR_SEND, 6, 7, MONITOR_SEND, 6, 6,
+                                         MONITOR_STEP, 6, 1, MONITOR_RAISE, 6, 0, MONITOR_LOWER, 7, 0, MONITOR_RAISE, 7, 1};
+    static const uint8_t none_answers[] = {21, 2, 1, 26, 22, 28, 29, 27};
     uint8_t given[16];
     uint32_t verdict[5];
     struct box b, whole;
@@ -250,7 +253,12 @@ static void lists(void) {
     memset(given, 0xEE, sizeof given);
     n = monitor_replay(TEXT(plan), TEXT(policy_b), calls, COUNT(calls), given, sizeof given, verdict);
     expect(n == 0 && given[0] == 0xEE && verdict[0] == MONITOR_BROKEN, "nothing is played where not accepted");
+    b.serials[2] = b.templates[64] = b.labels[127] = 77;
+    b.tags[4095] = 77;
     whole = b;
+    n = run(&b, none_done, COUNT(none_done), given, sizeof given);
+    expect(n == COUNT(none_answers) && memcmp(given, none_answers, n) == 0, "a list of calls of which none is done");
+    expect(memcmp(&b, &whole, sizeof b) == 0, "leaves every word as it was, of unused places too");
     b.row[0] = whole.row[0] = 65;
     memset(given, 0xEE, sizeof given);
     n = run(&b, calls, 9, given, sizeof given);
