@@ -50,7 +50,7 @@ pub extern "C" fn monitor_start<'a>(
     let state = begun.state;
     *words = words::verdict_words(verdict);
     let read = state.plan;
-    *row = planrow::row_of(read);
+    *row = encoding::row_of(read);
     *place = [state.next, state.live];
     let s = state.serials;
     *serials = s;

@@ -84,7 +84,7 @@ fn call(state: State, kind: u32, x: u32, y: u32) -> Answered
     ensures { λ r. ⌜ (outcomeOf r ≡ run boxLimits (machineOf state) (callOf kind x y)) × unlessDone (r .answer) (r .state ≡ state) ⌝ }
 {
     let plan = state.plan;
-    let row = planrow::row_of(plan);
+    let row = encoding::row_of(plan);
     let mut serials = state.serials;
     let mut templates = state.templates;
     let mut labels = state.labels;

@@ -1,6 +1,5 @@
 pub mod Reading
 pub mod Places
-pub mod Writing
 pub mod RoundTrip
 pub mod Parts
 pub mod Lookup

@@ -55,14 +55,6 @@ means-none row e = pick (isPlan row) e
     pick true q = cc
     pick false q = refl
 
-pub not-means : (row : List ℕ) → isPlan row ≡ false → planOfRow row ≡ none
-unfolding planOfRow
-not-means row e = rw e
-
-pub means-so : (row : List ℕ) → isPlan row ≡ true → planOfRow row ≡ some (planFor row)
-unfolding planOfRow planFor
-means-so row e = rw e
-
 -- It stands for the plan that it means.
 pub stands-for : (row : List ℕ) (plan : Plan) → planOfRow row ≡ some plan → planFor row ≡ plan
 unfolding planOfRow planFor

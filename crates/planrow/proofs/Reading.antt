@@ -1,16 +1,15 @@
 -- What the readers of a row meet: a form by its number, a template by its words, the tests one by one.
 use Prim.Native.Nat.{ℕ, zero, suc, _≤_, _<_}
-use mathlib.Core.Path.{_≡_, refl, sym, ap, _∙_, subst}
+use mathlib.Core.Path.{_≡_, refl, ap}
 use mathlib.Core.Bool.{Bool, true, false, _&&_}
 use mathlib.Core.List.{List}
 use native.Mathlib.Omega.{arith}
 use lib.Dec.{eqb, leb}
 use mir.Val.{Fits}
 use mir.Syntax.{w8}
-use borrow.Author.Tests.{le-leb, lt-leb, leb-true}
-use Rattle.lists.specs.Numbers.{every}
+use borrow.Author.Tests.{lt-leb, leb-true}
 use Rattle.lists.proofs.Tests.{and-left, and-right}
-use Rattle.lists.proofs.Every.{every-at, every-done}
+use Rattle.lists.proofs.Every.{every-at}
 use Rattle.plan.specs.declared.{Form.{Form, the-variants.{End, Go, Either, Both}}, Template.{Template}}
 use Rattle.planrow.specs.Row.{width, countIn, wordAt, formOf, templateOf, isTemplate, isPlan}
 use Rattle.planrow.specs.Lookup.{word}
@@ -83,16 +82,9 @@ module _ (row : List ℕ) where
   abbrev isTemplateAt : ℕ → Bool
   isTemplateAt X = isTemplate (wordAt row X)
 
-  pub row-long : (n : ℕ) → n ≡ countIn row → 64 < n → false ≡ isPlan row
+  pub row-long : 64 < countIn row → isPlan row ≡ false
   unfolding isPlan
-  row-long n e h = rw (lt-leb (countIn row) 64 (subst (λ (n : ℕ). 64 < n) e h))
-
-  pub row-tested : (n i : ℕ) (b : Bool) → n ≡ countIn row → n ≤ 64 → i ≤ n → n ≤ i → b ≡ every i (λ X. isTemplate (wordAt row X)) → b ≡ isPlan row
-  unfolding isPlan
-  row-tested n i b e h l g t =
-      every-done n isTemplateAt i b l g t
-      ∙ ap (λ (b : Bool). b && every n isTemplateAt) (sym (le-leb n 64 h))
-      ∙ ap (λ (n : ℕ). leb n 64 && every n isTemplateAt) e
+  row-long h = rw (lt-leb (countIn row) 64 h)
 
   module _ (e : isPlan row ≡ true) where
     pub plan-count : countIn row ≤ 64

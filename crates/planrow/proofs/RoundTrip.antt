@@ -1,6 +1,6 @@
 -- The row of a plan, back again: its templates are those of the words, and a plan with blank places past N is the very
 -- plan that its row means.
-use Prim.Native.Nat.{ℕ, min, _≤_, _<_}
+use Prim.Native.Nat.{ℕ, _≤_, _<_}
 use mathlib.Core.Path.{_≡_, refl, sym, ap, _∙_}
 use mathlib.Core.Logic.{_⊎_, inl, inr}
 use mathlib.Core.Bool.{Bool, true, false, cond, _&&_}
@@ -131,8 +131,7 @@ module _ (plan : Plan) (few : plan .count ≤ 64) where
 
 -- A plan of more templates has no row.
 pub row-over : (plan : Plan) → 64 < plan .count → isPlan (rowOfPlan plan) ≡ false
-row-over plan h =
-    sym (row-long (rowOfPlan plan) (min (plan .count) 65) (sym (row-counted plan)) (omega arith))
+row-over plan h = row-long (rowOfPlan plan) (omega (arith, row-counted plan))
 
 module _ (plan : Plan) (few : plan .count ≤ 64) (near : (X Y : ℕ) → X < plan .count → Successor plan X Y → Y < 64)
     (unused : (X : ℕ) → plan .count ≤ X → at plan X ≡ blank) (sized : length (plan .templates) ≡ 64) where

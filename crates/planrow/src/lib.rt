@@ -1,18 +1,15 @@
-// A plan as a row of words: looked up in one, tested there, and written to one.
+// A plan as a row of words: where they stand, a template looked up in them, and the plan's part of refusal 20.
 use plan::Form;
-use plan::Plan;
 use plan::Template;
 ghost use mathlib.Core.Path.{_≡_};
 ghost use mathlib.Core.Bool.{true, _&&_, _||_};
-ghost use Prim.Native.Nat.{ℕ, _+_, _<_, _≤_, _^_};
+ghost use Prim.Native.Nat.{_<_, _≤_, _^_};
 ghost use lib.Dec.{leb, ltb};
-ghost use lib.ListN.{getD, length};
+ghost use lib.ListN.{length};
 ghost use Rattle.lists.specs.Numbers.{all};
-ghost use Rattle.lists.specs.Writes.{written};
 ghost use Rattle.plan.specs.Plan.{masks, templateFits};
 ghost use Rattle.machine.specs.Machine.{planFits};
-ghost use Rattle.planrow.specs.Row.{width, countIn, identifiersIn, formOf, templateOf, isTemplate, isPlan};
-ghost use Rattle.planrow.specs.Row.{formNumber, firstOf, secondOf, wordsOf, rowOfPlan};
+ghost use Rattle.planrow.specs.Row.{width, countIn, identifiersIn, formOf, templateOf, isTemplate};
 ghost use Rattle.planrow.specs.Lookup.{word, partAt, planFor, templateAt};
 
 // The words of the header, those of a template, and all of them.
@@ -26,13 +23,6 @@ pub const WORDS: usize = HEADER + WIDTH * 64;
 const MASK: usize = 3;
 
 const RISK: usize = MASK + plan::MASKS;
-
-// A form's three words.
-struct FormWords {
-    number: u32,
-    first: u8,
-    second: u8,
-}
 
 // N
 pub fn template_count(row: &[u32; WORDS]) -> u32
@@ -65,23 +55,6 @@ fn is_template(words: &[u32]) -> bool
     ensures { λ r. ⌜ r ≡ isTemplate (word (now (words .entry))) ⌝ }
 {
     (words[0] <= 3) & ((words[1] <= 255) & ((words[2] <= 255) & (words[RISK] <= 1)))
-}
-
-// Whether the row means a plan.
-pub fn is_plan(row: &[u32; WORDS]) -> bool
-    ensures { λ r. ⌜ r ≡ isPlan (now (row .entry)) ⌝ }
-{
-    let count = template_count(row);
-    if 64 < count {
-        return false;
-    }
-    let mut fits = true;
-    let mut i: u32 = 0;
-    while i < count {
-        fits = fits & is_template(words_at(row, i));
-        i += 1;
-    }
-    fits
 }
 
 fn form_of(number: u32, y: u8, z: u8) -> Form
@@ -190,79 +163,4 @@ pub fn is_fitting(row: &[u32; WORDS]) -> bool
         i += 1;
     }
     fits
-}
-
-fn form_words(form: Form) -> FormWords
-    ensures { λ r. ⌜ (r .number ≡ formNumber form) × (r .first ≡ firstOf form) × (r .second ≡ secondOf form) ⌝ }
-{
-    match form {
-        Form::End => FormWords {
-            number: 0,
-            first: 0,
-            second: 0,
-        },
-        Form::Go(y) => FormWords {
-            number: 1,
-            first: y,
-            second: 0,
-        },
-        Form::Either(y, z) => FormWords {
-            number: 2,
-            first: y,
-            second: z,
-        },
-        Form::Both(y, z) => FormWords {
-            number: 3,
-            first: y,
-            second: z,
-        },
-    }
-}
-
-// A template's words.
-fn words_of(t: Template) -> [u32; WIDTH]
-    ensures { λ r. ⌜ r ≡ wordsOf t ⌝ }
-{
-    let form = t.form;
-    let w = form_words(form);
-    [
-        w.number,
-        w.first as u32,
-        w.second as u32,
-        t.lab,
-        t.pos,
-        t.neg,
-        t.creates,
-        t.risk as u32,
-    ]
-}
-
-// Stores a template's words from a place on.
-fn put_words(row: &mut [u32], at: usize, words: [u32; WIDTH])
-    requires { ⌜ at + width ≤ length (now row) ⌝ }
-    ensures { λ _. ⌜ ((j : ℕ) → getD (now (row .exit)) j 0 ≡ written (now (row .entry)) at width (λ k. getD words k 0) j) ⌝ }
-{
-    let mut k: usize = 0;
-    while k < WIDTH {
-        row[at + k] = words[k];
-        k += 1;
-    }
-}
-
-// The row of a plan. The first word is N, and 65 where there are more than 64 templates.
-pub fn row_of(plan: Plan) -> [u32; WORDS]
-    ensures { λ r. ⌜ r ≡ rowOfPlan plan ⌝ }
-{
-    let mut out = [0u32; WORDS];
-    out[0] = plan::capped(plan.count, 65) as u32;
-    out[1] = plan.identifiers;
-    let n = plan::capped(plan.count, 64) as usize;
-    let mut i: usize = 0;
-    while i < n {
-        let t = plan.templates[i];
-        let words = words_of(t);
-        put_words(&mut out, HEADER + WIDTH * i, words);
-        i += 1;
-    }
-    out
 }

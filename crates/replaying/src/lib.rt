@@ -16,7 +16,7 @@ pub fn play<'a>(state: State, calls: &'a [u32], answers: &'a mut [u8]) -> Ran
     ensures { λ r. ⌜ PlayedAll machineOf (now (calls .entry)) state (now (answers .entry)) (r .count) (r .state) (now (answers .exit)) ⌝ }
 {
     let plan = state.plan;
-    let row = planrow::row_of(plan);
+    let row = encoding::row_of(plan);
     let mut serials = state.serials;
     let mut templates = state.templates;
     let mut labels = state.labels;

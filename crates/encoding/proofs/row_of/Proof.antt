@@ -2,9 +2,9 @@
 use Prim.Native.Nat.{_-_}
 use borrow.Author.Needs.{needs}
 use Rattle.plan.specs.Plan.{at}
-use Rattle.planrow.proofs.Writing.{Writing, writing-none, writing-room, writing-more, writing-all}
-use Rattle.planrow.proofs.row_of.Statement.{statement}
-use Rattle.planrow.proofs.row_of.Tie as tie
+use Rattle.encoding.proofs.Writing.{Writing, writing-none, writing-room, writing-more, writing-all}
+use Rattle.encoding.proofs.row_of.Statement.{statement}
+use Rattle.encoding.proofs.row_of.Tie as tie
 
 abbrev Inv-loop : tie.InvT-loop
 Inv-loop plan row₀ n i₀ row i = Writing plan n row i

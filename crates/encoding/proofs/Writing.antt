@@ -14,9 +14,9 @@ use Rattle.lists.specs.Writes.{written}
 use Rattle.lists.proofs.Written.{written-in, written-below, written-above}
 use Rattle.plan.specs.declared.{Template.{Template}, Plan.{Plan}}
 use Rattle.plan.specs.Plan.{at, masks}
-use Rattle.planrow.specs.declared.FormWords.{FormWords}
+use Rattle.encoding.specs.declared.FormWords.{FormWords}
 use Rattle.planrow.specs.Row.{header, width, words, begins, formNumber, firstOf, secondOf, wordsOf, wordIn, headerOf, rowOfPlan}
 use Rattle.planrow.proofs.Places.{word-here, word-past, length-row, row-front, row-behind}
 
 -- Of a template the code has the form's three words and risk as a number.
 pub words-whole : (t : Template) (w : FormWords) → w .number ≡ formNumber (t .form) → w .first ≡ firstOf (t .form) → w .second ≡ secondOf (t .form)

@@ -1,9 +1,9 @@
 -- By the form.
 use mathlib.Core.Path.{refl}
 use Rattle.planrow.specs.Row.{formNumber, firstOf, secondOf}
 use borrow.Author.Needs.{needs}
-use Rattle.planrow.proofs.form_words.Statement.{statement}
-use Rattle.planrow.proofs.form_words.Tie as tie
+use Rattle.encoding.proofs.form_words.Statement.{statement}
+use Rattle.encoding.proofs.form_words.Tie as tie
 
 enum-told : tie.Need-enum-told
 enum-told c = search needs

@@ -6,9 +6,9 @@ use lib.ListN.{getD, length, length-set}
 use borrow.Author.Needs.{needs}
 use Rattle.lists.specs.Writes.{written}
 use Rattle.lists.proofs.Written.{written-none, written-more}
 use Rattle.planrow.specs.Row.{width}
-use Rattle.planrow.proofs.put_words.Statement.{statement}
-use Rattle.planrow.proofs.put_words.Tie as tie
+use Rattle.encoding.proofs.put_words.Statement.{statement}
+use Rattle.encoding.proofs.put_words.Tie as tie
 
 abbrev Inv-loop : tie.InvT-loop
 Inv-loop row₀ at words k₀ row k = (k ≤ width) × (length row ≡ length row₀) × ((j : ℕ) → getD row j 0 ≡ written row₀ at k (λ i. getD words i 0) j)

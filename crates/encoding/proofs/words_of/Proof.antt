@@ -1,8 +1,8 @@
 -- The form's words, and the rest as they stand.
-use Rattle.planrow.proofs.Writing.{words-whole}
+use Rattle.encoding.proofs.Writing.{words-whole}
 use borrow.Author.Needs.{needs}
-use Rattle.planrow.proofs.words_of.Statement.{statement}
-use Rattle.planrow.proofs.words_of.Tie as tie
+use Rattle.encoding.proofs.words_of.Statement.{statement}
+use Rattle.encoding.proofs.words_of.Tie as tie
 
 form-words-requires : tie.Need-form-words-requires
 form-words-requires c κs = search needs
