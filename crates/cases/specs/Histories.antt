@@ -105,8 +105,8 @@ baseRows =
     ∷ (nearestTo 4 reader (afterRun []) gives found (some 4)) ∷ (nearestTo 7 reader (afterRun []) gives found (some 7))
     -- 6 and 7 are kin under split and not under hub; all three are under boot; the hub has no reader on its line
     ∷ (nearestTo 6 split (afterRun []) gives found (some 5)) ∷ (nearestTo 6 hub (afterRun []) gives found (some 6))
-    ∷ (nearestTo 4 boot (afterRun []) gives found (some 0)) ∷ (nearestTo 7 boot (afterRun []) gives found (some 0))
-    ∷ (nearestTo 6 reader (afterRun []) gives found none)
+    ∷ (nearestTo 4 boot (afterRun []) gives found (some 0)) ∷ (nearestTo 6 boot (afterRun []) gives found (some 0))
+    ∷ (nearestTo 7 boot (afterRun []) gives found (some 0)) ∷ (nearestTo 6 reader (afterRun []) gives found none)
     -- a Declass process inherits nothing: boot, hub and split know themselves, a reader itself and what its split knew
     ∷ (knownTo 0 (afterRun []) gives serials (0 ∷ [])) ∷ (knownTo 3 (afterRun []) gives serials (3 ∷ []))
     ∷ (knownTo 5 (afterRun []) gives serials (5 ∷ [])) ∷ (knownTo 6 (afterRun []) gives serials (6 ∷ []))

@@ -9,7 +9,7 @@ use Rattle.rules.specs.{declared.Verdict.the-variants.{Accepted}, Judge.{broken
 use Rattle.machine.specs.declared.Answer.the-variants.{Done, Delivered, Held, Refused}
 use Rattle.machine.specs.Machine.{Call, step, send, raise, lower}
 use Rattle.promise.specs.History.{World}
-use Rattle.cases.specs.Base.{boot, asserting}
+use Rattle.cases.specs.Base.{boot, changing, asserting}
 use Rattle.cases.specs.Histories.{worldFor, Row, _gives_}
 use Rattle.cases.specs.Histories.{verdictOn, living, movers, nearestTo, knownTo, answerTo, judged, serials, found, answers}
 
@@ -50,6 +50,13 @@ onePair = step 0 0 ∷ step 1 0 ∷ []
 abbrev twoPairs : List Call
 twoPairs = onePair ++ (step 2 0 ∷ step 5 0 ∷ [])
 
+-- After more calls, in a box of pairs whose reader begins without the tag; and in one whose reader becomes a writer.
+abbrev bareThen : List Call → World
+bareThen more = worldFor (changing 3 "lab=00000000" pairPlan) pairPolicy 0 (onePair ++ more)
+
+abbrev onwardThen : List Call → World
+onwardThen more = worldFor (changing 3 "form=go:2" pairPlan) pairPolicy 0 (onePair ++ more)
+
 -- The reader passes on what it heard: it takes the tag off and sends to the clerk.
 abbrev leak : List Call
 leak = onePair ++ (send 3 4 ∷ lower 4 0 ∷ send 4 2 ∷ [])
@@ -76,6 +83,11 @@ pairRows =
     -- "once": the label put back (the send is delivered again), a move that changes nothing, a delivery, its step leave the mark
     ∷ (answerTo (send 3 4) (inPairs (onePair ++ (lower 4 0 ∷ raise 4 0 ∷ []))) gives answers Delivered)
     ∷ (movers (inPairs (onePair ++ (lower 4 0 ∷ raise 4 0 ∷ raise 4 0 ∷ send 3 4 ∷ step 4 0 ∷ []))) gives serials (4 ∷ []))
+    -- a lower that changes nothing marks nobody, and a raise that changes the label marks its process
+    ∷ (answerTo (lower 4 0) (bareThen []) gives answers Done) ∷ (movers (bareThen (lower 4 0 ∷ [])) gives serials [])
+    ∷ (movers (bareThen (raise 4 0 ∷ [])) gives serials (4 ∷ []))
+    -- "its own label": the child of a process that moved has not moved
+    ∷ (movers (onwardThen (lower 4 0 ∷ raise 4 0 ∷ step 4 0 ∷ [])) gives serials (4 ∷ []))
     -- the second pair are kin under their own desk, all four under boot; a writer and the other desk's reader are not under desk
     ∷ (living (inPairs twoPairs) gives serials (3 ∷ 4 ∷ 6 ∷ 7 ∷ []))
     ∷ (nearestTo 6 desk (inPairs twoPairs) gives found (some 5)) ∷ (nearestTo 7 desk (inPairs twoPairs) gives found (some 5))

@@ -1,5 +1,5 @@
 -- Masks as sets: what contracts and laws name besides Mask.antt.
--- Not to be believed: nothing that document 01 says is said with these.
+-- Not to be believed: nothing that has to be believed is said with these.
 use Prim.Native.Nat.{ℕ, zero, suc, _+_, _*_, _/_, _%_, _^_}
 use mathlib.Core.Path.{_≡_}
 use mathlib.Core.Bool.{Bool, not, cond, _||_}
