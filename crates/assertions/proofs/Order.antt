@@ -2,7 +2,7 @@
 -- all assertions.
 use Prim.Native.Nat.{ℕ, _+_, _≤_, _<_, min}
 use mathlib.Core.Path.{_≡_, refl, sym, ap, subst, _∙_, fun-ext}
-use mathlib.Core.Bool.{Bool, true, false, not, cond, _&&_, _||_, or-false}
+use mathlib.Core.Bool.{Bool, true, false, not, cond, _&&_, _||_, and-assoc, or-false}
 use mathlib.Core.List.{List, map}
 use native.Mathlib.Omega.{arith}
 use mir.Syntax.{w8}
@@ -28,7 +28,6 @@ use Rattle.rules.specs.Judge.{broken, firstBelow, serves, checkProt, checkAsser
 use Rattle.rules.specs.Broken.{accepted}
 use Rattle.rules.proofs.Walk.{broken-accepted, accepted-is, below-none, below-more, below-leaves, below-alike}
 use Rattle.secrecy.specs.Lent.{keeps, wearables, joined, servesBy}
-use Rattle.secrecy.proofs.Wearing.{and-again}
 use Rattle.prot.specs.declared.Labels.{Labels}
 use Rattle.prot.specs.Lent.{parted, protBy}
 
@@ -71,7 +70,7 @@ module _ (plan : Plan) (place : ℕ) (a : Assertion) (first second masks : List 
     serves-is t =
         (λ i. (lasts t ∙ ap (λ (X : Template). has t (X .lab) && every (plan .count) (keeps plan (a .declass) t)) e) i
         && (not ((ap (has t) (worn ∙ ap wearables h) ∙ wearables-are plan (a .sink) t) i) || not (joined-is t i)))
-        ∙ and-again (has t (at plan (a .source) .lab)) (every (plan .count) (keeps plan (a .declass) t))
+        ∙ and-assoc (has t (at plan (a .source) .lab)) (every (plan .count) (keeps plan (a .declass) t))
         (not (wearable plan (a .sink) t) || not (sharesTag plan t (a .source) (a .sink) (a .anc)))
 
     pub secrecy-kind : (b : Bool) → b ≡ any (plan .identifiers) (servesBy kept risked (joined first second masks forks a))

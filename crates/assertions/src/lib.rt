@@ -46,17 +46,14 @@ fn check_assertion<'a>(
     let kind = a.kind;
     match kind {
         Kind::Secrecy => {
-            let kept = secrecy::find_kept(plan, source.lab, a.declass);
-            let risked = secrecy::wearables(sink);
-            let limit = plan.identifiers;
             let served = secrecy::some_serves(
                 first,
                 second,
                 creates,
                 forks,
-                kept,
-                risked,
-                limit,
+                secrecy::find_kept(plan, source.lab, a.declass),
+                secrecy::wearables(sink),
+                plan.identifiers,
                 a,
             );
             verdict_17(served, place, a.sink)

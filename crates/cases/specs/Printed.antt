@@ -1,5 +1,6 @@
 -- What `judge` prints, byte for byte, and the numbers of the same verdicts: an accepted pair, document 01's case c ("prints
 -- exactly [..]"), both texts unread, the longest figures that a verdict holds, and others at the edge of a width.
+-- Not to be believed: the rows hold, by computation.
 use Prim.Native.Nat.{ℕ}
 use Prim.Native.String.{String}
 use mathlib.Core.List.{List, [], _∷_}

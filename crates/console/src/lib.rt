@@ -35,10 +35,6 @@ pub fn print_word(n: u32) {
     io::print_decimal(STDOUT_FILENO, n as u64);
 }
 
-pub fn print_byte(n: u8) {
-    io::print_decimal(STDOUT_FILENO, n as u64);
-}
-
 // A digit of base 16.
 fn hex_digit(d: u8) -> u8
     requires { ⌜ d < 16 ⌝ }

@@ -1,5 +1,5 @@
 -- Elements chosen by their place, and elements chosen by a test.
--- Not to be believed yet: no believed definition names these.
+-- Not to be believed: the rows of crate cases alone name these.
 use Prim.Native.Nat.{ℕ, zero, suc}
 use mathlib.Core.{Bool.{Bool, true, false, cond}, List.{List, [], _∷_, _++_}}
 

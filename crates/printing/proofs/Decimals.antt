@@ -3,19 +3,20 @@ use Prim.Native.Nat.{ℕ, zero, suc, _/_, _^_, _≤_, _<_}
 use mathlib.Core.Path.{_≡_, refl, sym, ap, _∙_}
 use mathlib.Core.List.{List, [], _∷_}
 use mathlib.Core.Bool.{Bool, true, not, _&&_, _||_}
-use mathlib.Core.Logic.{_⊎_, inl, inr, ⊎-elim}
-use native.Mathlib.Nat.{div-eq-of-lt, le-div-iff-mul-le, pow-le-pow-right}
+use mathlib.Core.Logic.{_⊎_, inl, inr}
+use native.Mathlib.Nat.{le-of-suc-le-suc, div-eq-of-lt, le-div-iff-mul-le, pow-le-pow-right}
 use native.Mathlib.Omega.{arith}
 use lib.ListN.{length, getD}
 use lib.Dec.{eqb, leb, ltb}
 use borrow.Author.Tests.{ltb-true, ltb-false, leb-true, eqb-true, eqb-false, not-true, lt-ltb, le-ltb}
 use Rattle.lists.specs.Numbers.{lowest}
-use Rattle.lists.proofs.{Tests.{and-three, or-cases, lt-or-le, passes-fails}, Lowest.{lowest-holds, lowest-below, lowest-is}}
+use Rattle.lists.proofs.{Tests.{and-three, or-cases, lt-or-le}, Lowest.{lowest-holds, lowest-below, lowest-is}}
 use Rattle.numerals.specs.Numerals.{numeral, spell, decimalWidth, decimalOf}
 use Rattle.field.specs.Fields.{is, bad, digit, digits, decimal}
 use Rattle.field.proofs.Numbers.{decimal-digit, decimal-digits}
 use Rattle.field.proofs.Each.{Each, each-bad, each-if}
-use Rattle.printing.proofs.Digits.{digit-numeral, power-pos, top-digit, spell-length, spell-back, Spelled, spell-only}
+use Rattle.numerals.proofs.Digits.{width-within, spell-length, decimal-length}
+use Rattle.printing.proofs.Digits.{digit-numeral, power-pos, top-digit, spell-back, Spelled, spell-only}
 use Rattle.printing.proofs.Bytes.{free, free-spell}
 
 -- ---- how many digits
@@ -45,7 +46,7 @@ width-fits v h = (u, refl, (few, ltb-true v (10 ^ suc u) (lowest-holds 9 p (omeg
     u = lowest 9 p
 
     few : u ≤ 3
-    few = ⊎-elim (λ l. absurd (passes-fails (p 3) (lt-ltb v 10000 h) (lowest-below 9 p 3 l))) (λ l. l) (lt-or-le 3 u)
+    few = le-of-suc-le-suc (width-within v 3 h)
 
     least : (w : ℕ) → u ≡ w → (w ≡ 0) ⊎ (10 ^ w ≤ v)
     least zero e = inl refl
@@ -95,8 +96,7 @@ unfolding decimalOf
 decimal-back v h = let p = width-fits v h in rw (p .1) (spelled-back (p .0) v (p .2))
 
 pub decimal-short : (v : ℕ) → v < 10000 → length (decimalOf v) ≤ 4
-unfolding decimalOf
-decimal-short v h = let p = width-fits v h in omega (arith, spell-length 10 (decimalWidth v) v, p .1, p .2 .0)
+decimal-short v h = omega (arith, decimal-length v, width-within v 3 h)
 
 pub decimal-free : (b v : ℕ) → b < 48 → free b (decimalOf v) ≡ true
 unfolding decimalOf

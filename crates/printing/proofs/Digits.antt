@@ -67,11 +67,6 @@ digits-cons : (base acc b : ℕ) (s : List ℕ) → digit b < base → digits ba
 unfolding digits
 digits-cons base acc b s h = rw (lt-ltb (digit b) base h, digits)
 
-pub spell-length : (base w n : ℕ) → length (spell base w n) ≡ w
-unfolding spell
-spell-length base zero n = refl
-spell-length base (suc w) n = ap suc (spell-length base w (n % base ^ w))
-
 spell-cons : (base w d r : ℕ) → r < base ^ w → spell base (suc w) (d * base ^ w + r) ≡ numeral d ∷ spell base w r
 unfolding spell
 spell-cons base w d r h = ap₂ (λ (x y : ℕ). numeral x ∷ spell base w y) (digits-div d h) (digits-mod d h)

@@ -17,7 +17,8 @@ use Rattle.field.specs.Fields.{Field, is, bad, andThen, digits, decimal, number
 use Rattle.field.specs.Answers.{isName}
 use Rattle.field.proofs.Each.{each-is, each-bad, each-if, each-then, mask-read}
 use Rattle.printing.specs.Printing.{maskOf, riskOf, kindOf}
-use Rattle.printing.proofs.Digits.{spell-length, spell-back, spell-only}
+use Rattle.numerals.proofs.Digits.{spell-length}
+use Rattle.printing.proofs.Digits.{spell-back, spell-only}
 use Rattle.printing.proofs.Bytes.{free, free-cons, free-spell, same-eq}
 use Rattle.printing.proofs.Decimals.{decimal-back, decimal-short, decimal-free, decimal-only}
 

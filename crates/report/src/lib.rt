@@ -12,6 +12,9 @@ ghost use Rattle.rules.specs.declared.Verdict.the-variants.{Broken, Unread};
 ghost use Rattle.rules.specs.Judge.{printed};
 ghost use Rattle.report.specs.Lines.{Appends, figureLine, textLine};
 
+// Room for the bytes of any verdict: the longest has 60.
+pub const ROOM: usize = 64;
+
 // Copies bytes into the list from a place on and answers the place after them.
 fn append(out: &mut [u8], at: usize, bytes: &[u8]) -> usize
     requires { ⌜ at + length (now bytes) ≤ length (now out) ⌝ }
@@ -81,7 +84,7 @@ fn write_unread(fault: Fault, out: &mut [u8]) -> usize
 }
 
 // How many bytes the verdict has; they stand at the buffer's start, and after them what stood there.
-pub fn write_verdict(verdict: Verdict, out: &mut [u8; 64]) -> usize
+pub fn write_verdict(verdict: Verdict, out: &mut [u8; ROOM]) -> usize
     ensures { λ r. ⌜ (r ≡ length (printed verdict)) × (now (out .exit) ≡ printed verdict ++ drop r (now (out .entry))) ⌝ }
     ensures room { λ r. ⌜ r ≤ length (now (out .exit)) ⌝ }
 {

@@ -2,7 +2,7 @@
 -- turns of the loop over the templates.
 use Prim.Native.Nat.{ℕ, _+_, _≤_, _<_, min}
 use mathlib.Core.Path.{_≡_, refl, sym, ap, _∙_}
-use mathlib.Core.Bool.{Bool, true, false, not, cond, _&&_, _||_, or-true}
+use mathlib.Core.Bool.{Bool, true, false, not, cond, _&&_, _||_, and-assoc, or-true}
 use mathlib.Core.List.{map}
 use native.Mathlib.Omega.{arith}
 use mir.Syntax.{w8}
@@ -34,10 +34,6 @@ wearables-safe X e = sym (ap (λ (b : Bool). cond b (bitOr (X .lab) (X .pos)) (X
 kept-all : (b : Bool) → b ≡ (b && true)
 kept-all true = refl
 kept-all false = refl
-
-pub and-again : (a b c : Bool) → ((a && b) && c) ≡ (a && (b && c))
-and-again true b c = refl
-and-again false b c = refl
 
 keep-one : (kept neg t : ℕ) (d : Bool) → has t (cond d kept (without kept neg)) ≡ (has t kept && (d || not (has t neg)))
 keep-one kept neg t true = kept-all (has t kept)
@@ -79,7 +75,7 @@ module _ (plan : Plan) (worn declass : ℕ) where
       below = omega arith;
       so-far = λ t.
           ap (has t) e ∙ keep-one kept (getD (plan .templates) x blank .neg) t (has x declass) ∙ ap (λ (b : Bool). b && keeps plan declass t x) (s .so-far t)
-          ∙ and-again (has t worn) (every x (keeps plan declass t)) (keeps plan declass t x)
+          ∙ and-assoc (has t worn) (every x (keeps plan declass t)) (keeps plan declass t x)
           ∙ ap (λ (b : Bool). has t worn && b) (every-acc x (keeps plan declass t) (every x (keeps plan declass t)) refl);
     }
 

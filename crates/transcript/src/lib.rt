@@ -2,6 +2,7 @@
 // answers it. Else each call is answered on a line, and the state that the calls leave follows; a line that is no call
 // ends the run.
 use machine::State;
+use report::ROOM;
 use rules::Verdict;
 ghost use mathlib.Core.Path.{_≡_};
 ghost use lib.ListN.{length};
@@ -19,7 +20,7 @@ fn print_run(answers: &[u8], count: usize, state: State, fault: bool, line: u64)
 
 // The verdict as judge prints it.
 fn print_verdict(verdict: Verdict) {
-    let mut out = [0u8; 64];
+    let mut out = [0u8; ROOM];
     let n = report::write_verdict(verdict, &mut out);
     console::print(&out[0..n]);
 }
