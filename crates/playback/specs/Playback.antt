@@ -6,8 +6,8 @@ use lib.ListN.{length, getD}
 use Rattle.text.specs.Reading.{readPlan, readPolicy}
 use Rattle.rules.specs.{declared.Verdict.{Verdict, the-variants.{Accepted, Broken, Unread}}, Judge.{judge}}
 use Rattle.machine.specs.declared.State.{State}
-use Rattle.machine.specs.Machine.{Machine, Call, boxLimits, run, start}
-use Rattle.machine.specs.State.{machineOf, blankState, unlessDone, codeOf}
+use Rattle.machine.specs.Machine.{Machine, Call, boxLimits, run}
+use Rattle.machine.specs.State.{machineOf, blankState, rootState, unlessDone, codeOf}
 use Rattle.promise.specs.{History.{worldAfter}, Promise.{Promised}, Replay.{callAt, callsIn}}
 
 -- ---- a list of calls
@@ -39,16 +39,15 @@ playable Accepted words places = min (words / 3) places
 playable (Broken b) words places = 0
 playable (Unread f) words places = 0
 
--- What replay hands back. Accepted: from a state that means the started machine the calls are played, what they reach is
--- the world's own machine, whichever the Declass of its history, and the box promise holds of the world after them. Else
+-- What replay hands back. Accepted: from the very state that start gives the calls are played, what they reach is the
+-- world's own machine, whichever the Declass of its history, and the box promise holds of the world after them. Else
 -- nothing is touched, and the state is the blank one.
 pub record Replays (planText policyText words before : List ℕ) (verdict : Verdict) (count : ℕ) (state : State) (after : List ℕ) : Type 0 where
   pub judged : verdict ≡ judge planText policyText
   pub counted : count ≡ playable verdict (length words) (length before)
   pub played : verdict ≡ Accepted
       → let plan = readPlan planText .plan in
-      (met : State) × (machineOf met ≡ start plan)
-      × ((declass : ℕ) → Played machineOf (λ calls. worldAfter boxLimits plan declass calls .machine) count words met before state after)
+      (declass : ℕ) → Played machineOf (λ calls. worldAfter boxLimits plan declass calls .machine) count words (rootState plan) before state after
   pub promised : verdict ≡ Accepted
       → let plan = readPlan planText .plan in
       Promised boxLimits plan (readPolicy (plan .count) policyText .policy) (callsIn count words)

@@ -5,6 +5,7 @@ use mathlib.Core.Path.{_≡_}
 use mathlib.Core.List.{List}
 use lib.ListN.{length}
 use Rattle.plan.specs.declared.Plan.{Plan}
+use Rattle.machine.specs.declared.State.{State}
 use Rattle.machine.specs.Machine.{Machine, boxLimits}
 use Rattle.machine.specs.State.{Cells, machineFrom}
 use Rattle.promise.specs.Replay.{machineAfter}
@@ -22,6 +23,10 @@ memory next live serials templates labels tags = record {
   live = live;
   cells = record { serials = serials; templates = templates; labels = labels; tags = tags };
 }
+
+-- The memory of a state.
+abbrev pub memoryOf : State → Memory
+memoryOf s = memory (s .next) (s .live) (s .serials) (s .templates) (s .labels) (s .tags)
 
 -- The machine that it means.
 unfoldable pub machineIn : Plan → Memory → Machine

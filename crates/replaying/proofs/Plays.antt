@@ -14,7 +14,7 @@ use Rattle.machine.specs.Machine.{Machine, Outcome, Call, boxLimits, planFits, 
 use Rattle.machine.specs.State.{processesOf, machineFrom, machineOf, unlessDone}
 use Rattle.machine.proofs.Alike.{Alike, onPlan, outcomeOn, run-alike}
 use Rattle.monitor.proofs.Kept.{rebuilt}
-use Rattle.playback.specs.Running.{Memory, memory, machineIn, PlayedAll}
+use Rattle.playback.specs.Running.{Memory, memoryOf, machineIn, PlayedAll}
 use Rattle.playback.proofs.Through.{played-along}
 use Rattle.playback.proofs.Unfit.{unfit, unfit-kept}
 
@@ -63,11 +63,11 @@ module _ (plan : Plan) where
       pick false f = agree-unfit f
 
 pub plays-on : (s : State) (words before row : List ℕ) → row ≡ rowOfPlan (s .plan) → (n : ℕ) (left : Memory) (after : List ℕ)
-    → PlayedAll (machineIn (planFor row)) words (memory (s .next) (s .live) (s .serials) (s .templates) (s .labels) (s .tags)) before n left after
+    → PlayedAll (machineIn (planFor row)) words (memoryOf s) before n left after
     → PlayedAll machineOf words s before n (rebuilt s (left .next) (left .live) (left .cells)) after
 unfolding machineIn machineOf
 plays-on s words before row er n left after p =
-    let met = memory (s .next) (s .live) (s .serials) (s .templates) (s .labels) (s .tags) in
+    let met = memoryOf s in
     played-along (machineIn (planFor (rowOfPlan (s .plan)))) machineOf (λ m. rebuilt s (m .next) (m .live) (m .cells))
     (agree (s .plan) .answers) (agree (s .plan) .leaves) words met before n left after
     (subst (λ (row : List ℕ). PlayedAll (machineIn (planFor row)) words met before n left after) er p)
