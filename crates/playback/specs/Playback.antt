@@ -12,21 +12,23 @@ use Rattle.promise.specs.{History.{worldAfter}, Promise.{Promised}, Replay.{cal
 
 -- ---- a list of calls
 
--- The first n calls led from the memory `before` to `left`: what each call left means the machine's own outcome, and unless
--- the call was done it is the very memory that it met, unused places too: "a refused call hands on the state it got".
-pub data Through {A : Type 0} (means : A → Machine) (call : ℕ → Call) (before : A) : ℕ → A → Type 0 where
-  begun : Through means call before 0 before
-  onward : {n : ℕ} {met left : A} → Through means call before n met
-      → means left ≡ run boxLimits (means met) (call n) .machine
-      → unlessDone (run boxLimits (means met) (call n) .answer) (left ≡ met)
-      → Through means call before (suc n) left
+-- What a call left means the machine's own outcome, and unless the call was done it is the very memory that it met, unused
+-- places too: "a refused call hands on the state it got".
+pub record Does {A : Type 0} (means : A → Machine) (call : Call) (met left : A) : Type 0 where
+  pub machine : means left ≡ run boxLimits (means met) call .machine
+  pub literal : unlessDone (run boxLimits (means met) call .answer) (left ≡ met)
+
+-- The first n calls led from the memory `before` to `left`, one after the other, where `does` tells what one call does.
+pub data Through {A : Type 0} (does : Call → A → A → Type 0) (call : ℕ → Call) (before : A) : ℕ → A → Type 0 where
+  begun : Through does call before 0 before
+  onward : {n : ℕ} {met left : A} → Through does call before n met → does (call n) met left → Through does call before (suc n) left
 
 -- The first n calls of the words led from the memory `met` to `left`, and the row of answers from `before` to `after`: an
 -- answer for each call, and past them what stood there. `reached` is the machine that a list of calls leads to.
-pub record Played {A : Type 0} (means : A → Machine) (reached : List Call → Machine) (n : ℕ) (words : List ℕ)
+pub record Played {A : Type 0} (means : A → Machine) (does : Call → A → A → Type 0) (reached : List Call → Machine) (n : ℕ) (words : List ℕ)
     (met : A) (before : List ℕ) (left : A) (after : List ℕ) : Type 0 where
   pub machine : means left ≡ reached (callsIn n words)
-  pub through : Through means (callAt words) met n left
+  pub through : Through does (callAt words) met n left
   pub each : (j : ℕ) → j < n → getD after j 0 ≡ codeOf (run boxLimits (reached (callsIn j words)) (callAt words j) .answer)
   pub rest : (j : ℕ) → n ≤ j → getD after j 0 ≡ getD before j 0
 
@@ -47,7 +49,8 @@ pub record Replays (planText policyText words before : List ℕ) (verdict : Verd
   pub counted : count ≡ playable verdict (length words) (length before)
   pub played : verdict ≡ Accepted
       → let plan = readPlan planText .plan in
-      (declass : ℕ) → Played machineOf (λ calls. worldAfter boxLimits plan declass calls .machine) count words (rootState plan) before state after
+      (declass : ℕ)
+      → Played machineOf (Does machineOf) (λ calls. worldAfter boxLimits plan declass calls .machine) count words (rootState plan) before state after
   pub promised : verdict ≡ Accepted
       → let plan = readPlan planText .plan in
       Promised boxLimits plan (readPolicy (plan .count) policyText .policy) (callsIn count words)

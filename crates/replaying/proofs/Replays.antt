@@ -19,7 +19,7 @@ use Rattle.monitor.proofs.Starting.{root-machine, is-accepted, not-accepted, st
 use Rattle.promise.specs.History.{worldAfter}
 use Rattle.promise.specs.Replay.{machineAfter, callsIn}
 use Rattle.promise.proofs.Promise.{box-promise}
-use Rattle.playback.specs.Playback.{playable, Replays}
+use Rattle.playback.specs.Playback.{Does, playable, Replays}
 use Rattle.playback.specs.Running.{PlayedAll}
 use Rattle.playback.proofs.Through.{played-told}
 use Rattle.playback.proofs.Machines.{world-machine}
@@ -59,7 +59,7 @@ module _ (planText policyText words before : List ℕ) (v : Verdict) (s : State)
   unfolding stateOn
   rooted a = begun ∙ ap (λ (v : Verdict). stateOn v (readPlan planText .plan)) a
 
-  pub replays-so : not g ≡ false → (n : ℕ) (left : State) (after : List ℕ) → PlayedAll machineOf words s before n left after
+  pub replays-so : not g ≡ false → (n : ℕ) (left : State) (after : List ℕ) → PlayedAll machineOf (Does machineOf) words s before n left after
       → Replays planText policyText words before v n left after
   unfolding playable
   replays-so h n left after p =
@@ -68,8 +68,8 @@ module _ (planText policyText words before : List ℕ) (v : Verdict) (s : State)
         judged = w .0;
         counted = p .counted ∙ ap (λ (v : Verdict). playable v (length words) (length before)) (sym a);
         played = λ a declass.
-            played-told machineOf _ _ (reaches (readPlan planText .plan) declass) n words (rootState (readPlan planText .plan)) before left after
-            (subst (λ (s : State). PlayedAll machineOf words s before n left after) (rooted a) p .played);
+            played-told machineOf (Does machineOf) _ _ (reaches (readPlan planText .plan) declass) n words (rootState (readPlan planText .plan)) before left after
+            (subst (λ (s : State). PlayedAll machineOf (Does machineOf) words s before n left after) (rooted a) p .played);
         promised = λ a. box-promise planText policyText (sym (w .0) ∙ a) (callsIn n words);
         untouched = λ o. absurd (o a);
       }
