@@ -62,7 +62,7 @@ blankState =
     let zeros : List ℕ = replicate 128 0 in
     record { plan = noPlan; next = 0; live = 0; serials = zeros; templates = zeros; labels = zeros; tags = replicate 4096 0 }
 
--- "Serial 0 lives at the root, label lab 0, all tags 0, next serial 1": the state of it, unused places too.
+-- "Serial 0 lives at the root, label lab 0, all tags 0, next serial 1": as a state, its unused places like the first.
 abbrev pub rootState : Plan → State
 rootState plan =
     let zeros : List ℕ = replicate 128 0 in
