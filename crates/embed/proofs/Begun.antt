@@ -1,7 +1,6 @@
 -- What start leaves, as the code meets it: `begun` is what monitor::start gave.
 use Prim.Native.Nat.{ℕ}
 use mathlib.Core.Path.{_≡_, refl, sym, ap, _∙_}
-use mathlib.Core.Logic.{_≢_}
 use mathlib.Core.List.{List, [], _∷_}
 use mathlib.Core.Option.{some}
 use Rattle.plan.specs.declared.Plan.{Plan}
@@ -9,14 +8,13 @@ use Rattle.text.specs.Reading.{readPlan}
 use Rattle.rules.specs.declared.Verdict.{Verdict}
 use Rattle.rules.specs.declared.Verdict.the-variants.{Accepted, Broken, Unread}
 use Rattle.rules.specs.Judge.{judge, numbersOf}
-use Rattle.machine.specs.declared.State.{State}
 use Rattle.machine.specs.declared.Started.{Started}
 use Rattle.machine.specs.Machine.{Machine, start}
-use Rattle.machine.specs.State.{Cells, machineFrom, machineOf, blankState, startOn, started}
+use Rattle.machine.specs.State.{Cells, machineFrom, machineOf, startedState, startOn, started}
 use Rattle.planrow.specs.Row.{planOfRow, rowOfPlan}
 use Rattle.planrow.proofs.RoundTrip.{none-means}
 use Rattle.monitor.proofs.Starting.{accepted-means}
-use Rattle.playback.specs.Running.{machineIn}
+use Rattle.playback.specs.Running.{memoryOf, machineIn}
 use Rattle.memory.specs.Memory.{held}
 use Rattle.embed.specs.Embed.{Starts}
 
@@ -28,7 +26,7 @@ module _ (planText policyText : List ℕ) where
   started-means (Broken b) e = none-means
   started-means (Unread f) e = none-means
 
-  module _ (begun : Started) (w : (begun .verdict ≡ judge planText policyText) × (machineOf (begun .state) ≡ started planText policyText) × (begun .verdict ≢ Accepted → begun .state ≡ blankState)) where
+  module _ (begun : Started) (w : (begun .verdict ≡ judge planText policyText) × (machineOf (begun .state) ≡ started planText policyText) × (begun .state ≡ startedState planText policyText)) where
     same-plan : begun .state .plan ≡ started planText policyText .plan
     unfolding machineOf machineFrom
     same-plan = ap (λ (m : Machine). m .plan) (w .1)
@@ -42,8 +40,7 @@ module _ (planText policyText : List ℕ) where
       means = ap planOfRow (er ∙ ap rowOfPlan same-plan) ∙ started-means (judge planText policyText) refl;
       machine =
           ap (λ (p : Plan). machineFrom p (begun .state .next) (begun .state .live) cells) (sym same-plan) ∙ w .1;
-      blank = λ n.
-          ap (λ (s : State). held (s .next ∷ s .live ∷ []) (s .serials) (s .templates) (s .labels) (s .tags)) (w .2 (λ a. n (sym (w .0) ∙ a)));
+      left = ap memoryOf (w .2);
     }
       where
         cells : Cells

@@ -3,31 +3,25 @@
 -- Believed: everything here. Proved against it: crate embed.
 use Prim.Native.Nat.{ℕ}
 use mathlib.Core.Path.{_≡_}
-use mathlib.Core.Logic.{_≢_}
 use mathlib.Core.List.{List}
 use mathlib.Core.Option.{some}
-use lib.ListN.{replicate}
-use Rattle.rules.specs.declared.Verdict.the-variants.{Accepted}
 use Rattle.rules.specs.Judge.{judge, numbersOf}
 use Rattle.machine.specs.declared.State.{State}
-use Rattle.machine.specs.State.{started}
+use Rattle.machine.specs.State.{started, startedState}
 use Rattle.playback.specs.Playback.{Replays}
-use Rattle.playback.specs.Running.{Memory, memory, machineIn}
+use Rattle.playback.specs.Running.{Memory, memoryOf, machineIn}
 use Rattle.planrow.specs.Row.{planOfRow, rowOfPlan}
 
 -- ---- start
 
-abbrev pub blankMemory : Memory
-blankMemory = memory 0 0 (replicate 128 0) (replicate 128 0) (replicate 128 0) (replicate 4096 0)
-
 -- The verdict, the row and the memory that start leaves: the row is that of the started machine's plan and means that
--- plan, the memory means that machine; not accepted, both are blank.
+-- plan, the memory means that machine and is that of the started state, unused places too; not accepted, both are blank.
 pub record Starts (planText policyText : List ℕ) (verdict row : List ℕ) (after : Memory) : Type 0 where
   pub judged : verdict ≡ numbersOf (judge planText policyText)
   pub written : row ≡ rowOfPlan (started planText policyText .plan)
   pub means : planOfRow row ≡ some (started planText policyText .plan)
   pub machine : machineIn (started planText policyText .plan) after ≡ started planText policyText
-  pub blank : judge planText policyText ≢ Accepted → after ≡ blankMemory
+  pub left : after ≡ memoryOf (startedState planText policyText)
 
 -- ---- a box judged, started and run
 

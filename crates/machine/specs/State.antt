@@ -4,7 +4,7 @@ use Prim.Native.Nat.{ℕ, zero, suc, _+_, _*_}
 use mathlib.Core.List.{List}
 use lib.ListN.{getD, replicate}
 use Rattle.lists.specs.Numbers.{tabulate}
-use Rattle.plan.specs.declared.Plan.{Plan}
+use Rattle.plan.specs.{declared.Plan.{Plan}, Plan.{at}}
 use Rattle.text.specs.Reading.{readPlan, noPlan}
 use Rattle.rules.specs.{declared.Verdict.{Verdict, the-variants.{Accepted, Broken, Unread}}, Judge.{judge}}
 use Rattle.machine.specs.declared.{State.{State}, Answer.{Answer, the-variants.{Done, Delivered, Held, Refused}}}
@@ -62,7 +62,22 @@ blankState =
     let zeros : List ℕ = replicate 128 0 in
     record { plan = noPlan; next = 0; live = 0; serials = zeros; templates = zeros; labels = zeros; tags = replicate 4096 0 }
 
--- "Start judges both texts and gives the judge's answer if not accepted": the machine that it starts.
+-- "Serial 0 lives at the root, label lab 0, all tags 0, next serial 1": as a state, its unused places like the first.
+abbrev pub rootState : Plan → State
+rootState plan =
+    let zeros : List ℕ = replicate 128 0 in
+    record { plan = plan; next = 1; live = 1; serials = zeros; templates = zeros; labels = replicate 128 (at plan 0 .lab); tags = replicate 4096 0 }
+
+-- "Start judges both texts and gives the judge's answer if not accepted": the state that it hands back,
+unfoldable pub stateOn : Verdict → Plan → State
+stateOn Accepted plan = rootState plan
+stateOn (Broken b) plan = blankState
+stateOn (Unread f) plan = blankState
+
+unfoldable pub startedState : List ℕ → List ℕ → State
+startedState planText policyText = stateOn (judge planText policyText) (readPlan planText .plan)
+
+-- and the machine that it starts.
 unfoldable pub startOn : Verdict → Plan → Machine
 startOn Accepted plan = start plan
 startOn (Broken b) plan = machineOf blankState

@@ -6,9 +6,9 @@ use mathlib.Core.List.{List}
 use mathlib.Core.Option.{Option, none, some}
 use lib.ListN.{length, getD}
 use Rattle.plan.specs.declared.Plan.{Plan}
-use Rattle.machine.specs.Machine.{Call, step, send, raise, lower, boxLimits, run}
-use Rattle.machine.specs.State.{unlessDone, codeOf}
-use Rattle.playback.specs.Running.{Memory, memory, machineIn, PlayedAll}
+use Rattle.machine.specs.Machine.{Call, boxLimits, run}
+use Rattle.machine.specs.State.{codeOf}
+use Rattle.playback.specs.Running.{Memory, memory, machineIn, Leaves, PlayedAll}
 
 -- ---- the lent memory
 
@@ -18,29 +18,12 @@ held place serials templates labels tags = memory (getD place 0 0) (getD place 1
 
 -- ---- one call
 
--- Nothing but the labels was touched.
-pub record LabelsAlone (before after : Memory) : Type 0 where
-  pub next : after .next ≡ before .next
-  pub live : after .live ≡ before .live
-  pub serials : after .cells .serials ≡ before .cells .serials
-  pub templates : after .cells .templates ≡ before .cells .templates
-  pub tags : after .cells .tags ≡ before .cells .tags
-
--- What a call may touch, whatever it answers: of a send "the state stays".
-unfoldable pub Touches : Call → Memory → Memory → Type 0
-Touches (step s branch) before after = Prim.Unit
-Touches (send from to) before after = after ≡ before
-Touches (raise s i) before after = LabelsAlone before after
-Touches (lower s i) before after = LabelsAlone before after
-
 -- Where the row means that plan or none, the call met `before`, gave the number `code` and left `after`.
--- No plan: 20, and nothing is touched. Else the machine's answer and the machine; nothing is touched unless it is done.
+-- No plan: 20, and nothing is touched. Else the machine's answer, and what the call leaves (`Leaves`).
 unfoldable pub Answers : Option Plan → Call → Memory → ℕ → Memory → Type 0
 Answers none call before code after = (code ≡ 20) × (after ≡ before)
 Answers (some plan) call before code after =
-    let outcome = run boxLimits (machineIn plan before) call in
-    (code ≡ codeOf (outcome .answer)) × (machineIn plan after ≡ outcome .machine)
-    × unlessDone (outcome .answer) (after ≡ before) × Touches call before after
+    (code ≡ codeOf (run boxLimits (machineIn plan before) call .answer)) × Leaves plan call before after
 
 -- ---- a list of calls
 
@@ -54,4 +37,4 @@ pub record AllRefused (n : ℕ) (before after : List ℕ) : Type 0 where
 unfoldable pub Runs : Option Plan → List ℕ → Memory → List ℕ → ℕ → Memory → List ℕ → Type 0
 Runs none words before places count after filled =
     (count ≡ min (length words / 3) (length places)) × AllRefused count places filled × (after ≡ before)
-Runs (some plan) words before places count after filled = PlayedAll (machineIn plan) words before places count after filled
+Runs (some plan) words before places count after filled = PlayedAll (machineIn plan) (Leaves plan) words before places count after filled

@@ -6,11 +6,9 @@ use machine::Started;
 use machine::State;
 use plan::Plan;
 ghost use mathlib.Core.Path.{_≡_};
-ghost use mathlib.Core.Logic.{_≢_};
-ghost use Rattle.rules.specs.declared.Verdict.the-variants.{Accepted};
 ghost use Rattle.rules.specs.Judge.{judge};
-ghost use Rattle.machine.specs.Machine.{boxLimits, step, send, raise, lower, run, start};
-ghost use Rattle.machine.specs.State.{machineOf, outcomeOf, unlessDone, blankState, started, callOf};
+ghost use Rattle.machine.specs.Machine.{boxLimits, step, send, raise, lower, run};
+ghost use Rattle.machine.specs.State.{machineOf, outcomeOf, unlessDone, blankState, rootState, started, startedState, callOf};
 
 // What stands beside a verdict that is not accepted.
 fn blank_state() -> State
@@ -40,7 +38,7 @@ fn blank_state() -> State
 
 // "Serial 0 lives at the root, label lab 0, all tags 0, next serial 1."
 fn root_state(plan: Plan) -> State
-    ensures { λ r. ⌜ machineOf r ≡ start plan ⌝ }
+    ensures { λ r. ⌜ r ≡ rootState plan ⌝ }
 {
     let root = plan::template_at(plan, 0);
     let serials = [0u32; 128];
@@ -60,7 +58,7 @@ fn root_state(plan: Plan) -> State
 
 // Document 01, Start: it "judges both texts and gives the judge's answer if not accepted".
 pub fn start<'a>(plan: &'a [u8], policy: &'a [u8]) -> Started
-    ensures { λ r. ⌜ (r .verdict ≡ judge (now (plan .entry)) (now (policy .entry))) × (machineOf (r .state) ≡ started (now (plan .entry)) (now (policy .entry))) × (r .verdict ≢ Accepted → r .state ≡ blankState) ⌝ }
+    ensures { λ r. ⌜ (r .verdict ≡ judge (now (plan .entry)) (now (policy .entry))) × (machineOf (r .state) ≡ started (now (plan .entry)) (now (policy .entry))) × (r .state ≡ startedState (now (plan .entry)) (now (policy .entry))) ⌝ }
 {
     let verdict = verdict::judge(plan, policy);
     if !rules::is_accepted(verdict) {

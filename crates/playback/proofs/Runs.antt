@@ -9,14 +9,15 @@ use lib.ListN.{length, getD, set, length-set}
 use lib.Seq.{getD-set-other}
 use Rattle.lists.proofs.Tabulate.{filled-more}
 use Rattle.plan.specs.declared.Plan.{Plan}
-use Rattle.machine.specs.Machine.{Machine, Call, Outcome, boxLimits, run}
+use Rattle.machine.specs.Machine.{Machine, Call, step, send, raise, lower, Outcome, boxLimits, run}
 use Rattle.machine.specs.State.{Cells, unlessDone, codeOf}
 use Rattle.machine.proofs.Outcomes.{unless-so}
+use Rattle.machine.proofs.Told.{send-stays}
 use Rattle.population.specs.declared.Settled.{Settled}
-use Rattle.population.specs.Lent.{Same, Did}
+use Rattle.population.specs.Lent.{Same, LabelsAlone as Lent, unlessStep, Did}
 use Rattle.promise.specs.Replay.{machineAfter, callAt, callsIn}
 use Rattle.playback.specs.Playback.{Through, begun, onward}
-use Rattle.playback.specs.Running.{Memory, machineIn, PlayedAll}
+use Rattle.playback.specs.Running.{Memory, machineIn, LabelsAlone, Touches, Leaves, PlayedAll}
 use Rattle.playback.proofs.Through.{through-machine}
 
 -- The memory with its arrays in one.
@@ -25,19 +26,44 @@ withCells next live c = record { next = next; live = live; cells = c }
 
 -- ---- one call
 
-module _ (plan : Plan) (next live : ℕ) (c : Cells) (call : Call) (r : Settled) (d : Cells) where
-  abbrev Kept : Type 0
-  Kept = withCells (r .next) (r .live) d ≡ withCells next live c
+module _ (next live : ℕ) (c : Cells) (r : Settled) (d : Cells) where
+  abbrev met : Memory
+  met = withCells next live c
 
-  same-memory : Same next live c r d → Kept
+  abbrev left : Memory
+  left = withCells (r .next) (r .live) d
+
+  same-memory : Same next live c r d → left ≡ met
   same-memory w = λ i. record { next = w .same-next i; live = w .same-live i; cells = w .same-cells i }
 
-  -- Unless it was done, a call on lent arrays left the memory that it met.
-  pub did-kept : Did plan next live c call r d → unlessDone (run boxLimits (machineIn plan (withCells next live c)) call .answer) Kept
+  labels-alone : Lent next live c r d → LabelsAlone met left
+  labels-alone w = record {
+    next = w .next-stays;
+    live = w .live-stays;
+    serials = w .serials-stay;
+    templates = w .templates-stay;
+    tags = w .tags-stay;
+  }
+
+  touched : (call : Call) (m : Machine) → unlessDone (run boxLimits m call .answer) (left ≡ met) → unlessStep call (Lent next live c r d)
+      → Touches call met left
+  unfolding Touches unlessStep
+  touched (step s branch) m u w = Prim.tt
+  touched (send from to) m u w = send-stays boxLimits m from to (left ≡ met) u
+  touched (raise s i) m u w = labels-alone w
+  touched (lower s i) m u w = labels-alone w
+
+  -- What a call on lent arrays did is what it leaves of the memory.
+  pub did-leaves : (plan : Plan) (call : Call) → Did plan next live c call r d → Leaves plan call met left
   unfolding machineIn
-  did-kept w =
-      subst (λ (o : Outcome). unlessDone (o .answer) Kept) (w .means)
-      (unless-so (r .answer) (Same next live c r d) Kept same-memory (w .same))
+  did-leaves plan call w =
+      let kept : unlessDone (run boxLimits (machineIn plan met) call .answer) (left ≡ met) =
+      subst (λ (o : Outcome). unlessDone (o .answer) (left ≡ met)) (w .means)
+      (unless-so (r .answer) (Same next live c r d) (left ≡ met) same-memory (w .same)) in
+      record {
+        does = record { machine = ap (λ (o : Outcome). o .machine) (w .means); literal = kept };
+        touches = touched call (machineIn plan met) kept (w .others);
+      }
 
 -- ---- the loop
 
@@ -45,11 +71,15 @@ module _ (plan : Plan) (next live : ℕ) (c : Cells) (call : Call) (r : Settled)
 abbrev number : Machine → List ℕ → ℕ → ℕ
 number m words j = codeOf (run boxLimits (machineAfter boxLimits m (callsIn j words)) (callAt words j) .answer)
 
+led : (plan : Plan) (words : List ℕ) (met : Memory) (n : ℕ) (left : Memory) → Through (Leaves plan) (callAt words) met n left
+    → machineIn plan left ≡ machineAfter boxLimits (machineIn plan met) (callsIn n words)
+led plan = through-machine (machineIn plan) (Leaves plan) (λ call a b w. w .does)
+
 -- Where the loop stands before call i, at the memory `left` with the row `out` of answers.
 pub record Stands (plan : Plan) (words : List ℕ) (n i : ℕ) (old : List ℕ) (met left : Memory) (out : List ℕ) : Type 0 where
   pub few : i ≤ n
   pub room : length out ≡ length old
-  pub through : Through (machineIn plan) (callAt words) met i left
+  pub through : Through (Leaves plan) (callAt words) met i left
   pub each : (j : ℕ) → j < i → getD out j 0 ≡ number (machineIn plan met) words j
   pub rest : (j : ℕ) → i ≤ j → getD out j 0 ≡ getD old j 0
 
@@ -67,26 +97,26 @@ stands-on plan words n i old out met next live c d r q s h l w eq =
     record {
       few = omega arith;
       room = simp length-set sized;
-      through = subst (λ (k : ℕ). Through (machineIn plan) (callAt words) met k (withCells (r .next) (r .live) d)) (sym (add-one i))
-          (onward (s .through) (ap (λ (o : Outcome). o .machine) (w .means)) (did-kept plan next live c (callAt words i) r d w));
+      through = subst (λ (k : ℕ). Through (Leaves plan) (callAt words) met k (withCells (r .next) (r .live) d)) (sym (add-one i))
+          (onward (s .through) (did-leaves next live c r d plan (callAt words i) w));
       each = filled-more (number (machineIn plan met) words) out i q (omega arith)
           (eq ∙ ap (λ (o : Outcome). codeOf (o .answer)) (w .means)
-          ∙ ap (λ (a : Machine). codeOf (run boxLimits a (callAt words i) .answer)) (through-machine (machineIn plan) words met i (withCells next live c) (s .through)))
+          ∙ ap (λ (a : Machine). codeOf (run boxLimits a (callAt words i) .answer)) (led plan words met i (withCells next live c) (s .through)))
           (s .each);
       rest = λ j g. getD-set-other out i j q 0 (λ w. omega arith) ∙ s .rest j (omega arith);
     }
 
 -- Past the last call.
 pub played : (plan : Plan) (words : List ℕ) (n i : ℕ) (old : List ℕ) (met left : Memory) (out : List ℕ)
-    → n ≡ min (length words / 3) (length old) → Stands plan words n i old met left out → n ≤ i → PlayedAll (machineIn plan) words met old n left out
+    → n ≡ min (length words / 3) (length old) → Stands plan words n i old met left out → n ≤ i → PlayedAll (machineIn plan) (Leaves plan) words met old n left out
 played plan words n i old met left out en s h =
     let l = s .few in
     let q : i ≡ n = omega arith in
-    let t : Through (machineIn plan) (callAt words) met n left = subst (λ (k : ℕ). Through (machineIn plan) (callAt words) met k left) q (s .through) in
+    let t : Through (Leaves plan) (callAt words) met n left = subst (λ (k : ℕ). Through (Leaves plan) (callAt words) met k left) q (s .through) in
     record {
       counted = en;
       played = record {
-        machine = through-machine (machineIn plan) words met n left t;
+        machine = led plan words met n left t;
         through = t;
         each = λ j k. s .each j (omega arith);
         rest = λ j k. s .rest j (omega arith);

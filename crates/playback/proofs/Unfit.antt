@@ -11,7 +11,7 @@ use Rattle.machine.proofs.Outcomes.{outcome}
 use Rattle.population.proofs.Lent.{run-unfit}
 use Rattle.promise.specs.Replay.{machineAfter}
 use Rattle.playback.specs.Playback.{Through, begun, onward}
-use Rattle.playback.specs.Running.{Memory, machineIn}
+use Rattle.playback.specs.Running.{Memory, machineIn, Leaves}
 
 module _ (plan : Plan) (f : planFits plan ≡ false) where
   pub unfit : (m : Memory) (call : Call) → run boxLimits (machineIn plan m) call ≡ outcome (Refused 20) (machineIn plan m)
@@ -27,6 +27,6 @@ module _ (plan : Plan) (f : planFits plan ≡ false) where
   unfit-after m [] = refl
   unfit-after m (call ∷ rest) = ap (λ (o : Outcome). machineAfter boxLimits (o .machine) rest) (unfit m call) ∙ unfit-after m rest
 
-  pub unfit-through : (call : ℕ → Call) (met : Memory) {n : ℕ} {left : Memory} → Through (machineIn plan) call met n left → left ≡ met
+  pub unfit-through : (call : ℕ → Call) (met : Memory) {n : ℕ} {left : Memory} → Through (Leaves plan) call met n left → left ≡ met
   unfit-through call met begun = refl
-  unfit-through call met (onward {n = n} {met = a} {left = b} t e u) = unfit-kept a (call n) (b ≡ a) u ∙ unfit-through call met t
+  unfit-through call met (onward {n = n} {met = a} {left = b} t w) = unfit-kept a (call n) (b ≡ a) (w .does .literal) ∙ unfit-through call met t

@@ -5,7 +5,7 @@ ghost use mathlib.Core.Path.{_≡_};
 ghost use Prim.Native.Nat.{_≤_, _*_, _/_, min};
 ghost use Rattle.planrow.specs.Lookup.{planFor};
 ghost use Rattle.machine.specs.State.{codeOf};
-ghost use Rattle.playback.specs.Running.{memory, machineIn, PlayedAll};
+ghost use Rattle.playback.specs.Running.{memory, machineIn, Leaves, PlayedAll};
 
 // What a list of calls leaves beside the arrays, and how many calls were run.
 pub struct Place {
@@ -49,7 +49,8 @@ pub fn run_calls<'a>(
     ensures { λ r.
         let met = memory next live (now (serials .entry)) (now (templates .entry)) (now (labels .entry)) (now (tags .entry)) in
         let left = memory (r .next) (r .live) (now (serials .exit)) (now (templates .exit)) (now (labels .exit)) (now (tags .exit)) in
-        ⌜ PlayedAll (machineIn (planFor (now (row .entry)))) (now (calls .entry)) met (now (answers .entry)) (r .count) left (now (answers .exit)) ⌝ }
+        let plan = planFor (now (row .entry)) in
+        ⌜ PlayedAll (machineIn plan) (Leaves plan) (now (calls .entry)) met (now (answers .entry)) (r .count) left (now (answers .exit)) ⌝ }
 {
     let n = call_count(calls.len(), answers.len());
     let mut z = next;

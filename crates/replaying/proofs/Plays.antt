@@ -11,10 +11,11 @@ use Rattle.planrow.specs.Lookup.{planFor}
 use Rattle.planrow.proofs.Stands.{alike, fit-row, unfit as row-unfit}
 use Rattle.machine.specs.declared.State.{State}
 use Rattle.machine.specs.Machine.{Machine, Outcome, Call, boxLimits, planFits, run}
-use Rattle.machine.specs.State.{processesOf, machineFrom, machineOf, unlessDone}
+use Rattle.machine.specs.State.{processesOf, machineFrom, machineOf}
 use Rattle.machine.proofs.Alike.{Alike, onPlan, outcomeOn, run-alike}
 use Rattle.monitor.proofs.Kept.{rebuilt}
-use Rattle.playback.specs.Running.{Memory, memory, machineIn, PlayedAll}
+use Rattle.playback.specs.Playback.{Does}
+use Rattle.playback.specs.Running.{Memory, memoryOf, machineIn, Leaves, PlayedAll}
 use Rattle.playback.proofs.Through.{played-along}
 use Rattle.playback.proofs.Unfit.{unfit, unfit-kept}
 
@@ -25,8 +26,7 @@ module _ (plan : Plan) where
   -- Calls have the same answers, and leave the same memory.
   record Agree : Type 0 where
     answers : (m : Memory) (call : Call) → run boxLimits (machineIn plan m) call .answer ≡ run boxLimits (machineIn stood m) call .answer
-    leaves : (m m′ : Memory) (call : Call) → machineIn stood m′ ≡ run boxLimits (machineIn stood m) call .machine
-        → unlessDone (run boxLimits (machineIn stood m) call .answer) (m′ ≡ m) → machineIn plan m′ ≡ run boxLimits (machineIn plan m) call .machine
+    leaves : (m m′ : Memory) (call : Call) → Does (machineIn stood) call m m′ → machineIn plan m′ ≡ run boxLimits (machineIn plan m) call .machine
 
   module _ (f : planFits plan ≡ true) where
     same : Alike stood plan
@@ -43,7 +43,7 @@ module _ (plan : Plan) where
     agree-fit : Agree
     agree-fit = record {
       answers = λ m call. ap (λ (o : Outcome). o .answer) (runs m call);
-      leaves = λ m m′ call e u. over m′ ∙ ap (onPlan plan) e ∙ sym (ap (λ (o : Outcome). o .machine) (runs m call));
+      leaves = λ m m′ call w. over m′ ∙ ap (onPlan plan) (w .machine) ∙ sym (ap (λ (o : Outcome). o .machine) (runs m call));
     }
 
   agree-unfit : planFits plan ≡ false → Agree
@@ -51,8 +51,8 @@ module _ (plan : Plan) where
       let g = row-unfit plan f in
       record {
         answers = λ m call. ap (λ (o : Outcome). o .answer) (unfit plan f m call) ∙ sym (ap (λ (o : Outcome). o .answer) (unfit stood g m call));
-        leaves = λ m m′ call e u.
-            ap (machineIn plan) (unfit-kept stood g m call (m′ ≡ m) u) ∙ sym (ap (λ (o : Outcome). o .machine) (unfit plan f m call));
+        leaves = λ m m′ call w.
+            ap (machineIn plan) (unfit-kept stood g m call (m′ ≡ m) (w .literal)) ∙ sym (ap (λ (o : Outcome). o .machine) (unfit plan f m call));
       }
 
   agree : Agree
@@ -63,11 +63,12 @@ module _ (plan : Plan) where
       pick false f = agree-unfit f
 
 pub plays-on : (s : State) (words before row : List ℕ) → row ≡ rowOfPlan (s .plan) → (n : ℕ) (left : Memory) (after : List ℕ)
-    → PlayedAll (machineIn (planFor row)) words (memory (s .next) (s .live) (s .serials) (s .templates) (s .labels) (s .tags)) before n left after
-    → PlayedAll machineOf words s before n (rebuilt s (left .next) (left .live) (left .cells)) after
+    → PlayedAll (machineIn (planFor row)) (Leaves (planFor row)) words (memoryOf s) before n left after
+    → PlayedAll machineOf (Does machineOf) words s before n (rebuilt s (left .next) (left .live) (left .cells)) after
 unfolding machineIn machineOf
 plays-on s words before row er n left after p =
-    let met = memory (s .next) (s .live) (s .serials) (s .templates) (s .labels) (s .tags) in
-    played-along (machineIn (planFor (rowOfPlan (s .plan)))) machineOf (λ m. rebuilt s (m .next) (m .live) (m .cells))
+    let met = memoryOf s in
+    let plan = planFor (rowOfPlan (s .plan)) in
+    played-along (machineIn plan) (Leaves plan) (λ call m m′ w. w .does) machineOf (λ m. rebuilt s (m .next) (m .live) (m .cells))
     (agree (s .plan) .answers) (agree (s .plan) .leaves) words met before n left after
-    (subst (λ (row : List ℕ). PlayedAll (machineIn (planFor row)) words met before n left after) er p)
+    (subst (λ (row : List ℕ). PlayedAll (machineIn (planFor row)) (Leaves (planFor row)) words met before n left after) er p)

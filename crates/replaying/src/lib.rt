@@ -2,7 +2,7 @@
 use machine::State;
 use rules::Verdict;
 ghost use Rattle.machine.specs.State.{machineOf};
-ghost use Rattle.playback.specs.Playback.{Replays};
+ghost use Rattle.playback.specs.Playback.{Does, Replays};
 ghost use Rattle.playback.specs.Running.{PlayedAll};
 
 // What a list of calls leaves of a state, and how many calls were played. The state comes first, as in machine::Answered.
@@ -13,7 +13,7 @@ pub struct Ran {
 
 // The calls in order on the state, the answers written to the row: its arrays are lent, and the state is built again.
 pub fn play<'a>(state: State, calls: &'a [u32], answers: &'a mut [u8]) -> Ran
-    ensures { λ r. ⌜ PlayedAll machineOf (now (calls .entry)) state (now (answers .entry)) (r .count) (r .state) (now (answers .exit)) ⌝ }
+    ensures { λ r. ⌜ PlayedAll machineOf (Does machineOf) (now (calls .entry)) state (now (answers .entry)) (r .count) (r .state) (now (answers .exit)) ⌝ }
 {
     let plan = state.plan;
     let row = encoding::row_of(plan);
