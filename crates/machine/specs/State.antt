@@ -95,7 +95,7 @@ callOf (suc zero) x y = send x y
 callOf (suc (suc zero)) x y = raise x y
 callOf (suc (suc (suc n))) x y = lower x y
 
--- An answer as a number: 0 done, 1 delivered, 2 held, and a refusal's own number.
+-- "A definition gives this paper's number and values for each of its cases": 0 done, 1 delivered, 2 held, and a refusal's own.
 unfoldable pub codeOf : Answer → ℕ
 codeOf Done = 0
 codeOf Delivered = 1

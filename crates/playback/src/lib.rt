@@ -27,7 +27,7 @@ pub fn code_of(answer: Answer) -> u8
 }
 
 // How many calls so many words hold, and no more than there are places for their answers.
-pub fn call_count(words: usize, places: usize) -> usize
+fn call_count(words: usize, places: usize) -> usize
     ensures { λ r. ⌜ (r ≡ min (words / 3) places) × (r * 3 ≤ words) × (r ≤ places) ⌝ }
 {
     let calls = words / 3;

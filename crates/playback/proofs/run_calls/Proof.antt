@@ -71,7 +71,9 @@ loop-less : tie.Need-loop-less Inv-loop μ-loop
 loop-less c = search needs
 
 loop-again : tie.Need-loop-again Inv-loop μ-loop
-loop-again c = search (stands-on, needs)
+loop-again c =
+    let at-test = c .before .before .before .before .before .before .before .before .before in
+    stands-on _ _ _ _ _ _ _ _ _ _ _ _ _ (at-test .before .loop .inv) (search needs) (search needs) (c .before .run-call .ensures) (c .code-of .ensures)
 
 same-length : tie.Need-same-length Inv-loop μ-loop
 same-length c = search needs
