@@ -1,46 +1,4 @@
 // Judges stored pairs of texts: for each a line with the verdict, where the shown part lies and its first bytes.
-use rules::Text;
-use rules::Verdict;
-
-// Which text, between the words of a line.
-fn print_which(text: Text) {
-    match text {
-        Text::Plan => {
-            console::print(b" plan ");
-        }
-        Text::Policy => {
-            console::print(b" policy ");
-        }
-    }
-}
-
-// A verdict on one line, as stored cases have it.
-fn print_brief(verdict: Verdict) {
-    match verdict {
-        Verdict::Accepted => {
-            console::print(b"accepted");
-        }
-        Verdict::Broken(breach) => {
-            console::print(b"broken ");
-            console::print_number(breach.rule as u64);
-            console::print(b" ");
-            console::print_number(breach.first as u64);
-            console::print(b" ");
-            console::print_number(breach.second as u64);
-            console::print(b" ");
-            console::print_number(breach.identifier as u64);
-        }
-        Verdict::Unread(fault) => {
-            console::print(b"unread");
-            let text = fault.text;
-            print_which(text);
-            console::print_number(fault.number as u64);
-            console::print(b" ");
-            console::print_number(fault.line as u64);
-        }
-    }
-}
-
 // The first 32 bytes at most, each as two digits.
 fn print_bytes(part: &[u8]) {
     let mut i = 0;
@@ -54,10 +12,10 @@ fn print_bytes(part: &[u8]) {
 }
 
 fn print_case<'a>(plan: &'a [u8], policy: &'a [u8]) {
-    print_brief(verdict::judge(plan, policy));
+    brief::print_brief(verdict::judge(plan, policy));
     let part = showing::locate(plan, policy);
     let text = part.text;
-    print_which(text);
+    brief::print_which(text);
     console::print_number(part.start as u64);
     console::print(b" ");
     console::print_number(part.end as u64);

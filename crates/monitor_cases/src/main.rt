@@ -6,7 +6,7 @@ fn print_case<'a>(plan: &'a [u8], policy: &'a [u8], calls: &'a [u8], next: u32) 
     if next == 1 {
         transcript::print_replay(plan, policy, calls);
     } else {
-        transcript::print_replay_at(plan, policy, calls, next);
+        latestart::print_replay_at(plan, policy, calls, next);
     }
 }
 

@@ -26,7 +26,7 @@ fn print_verdict(verdict: Verdict) {
 }
 
 // The run of an accepted pair, else the verdict.
-fn print_verdict_or_run(
+pub fn print_verdict_or_run(
     verdict: Verdict,
     answers: &[u8],
     count: usize,
@@ -42,7 +42,7 @@ fn print_verdict_or_run(
 }
 
 // As many as the longest text of calls can have.
-fn answer_room() -> [u8; 8192]
+pub fn answer_room() -> [u8; 8192]
     ensures { λ r. ⌜ 8192 ≡ length r ⌝ }
 {
     [0; 8192]
@@ -58,20 +58,4 @@ pub fn print_replay<'a>(plan: &'a [u8], policy: &'a [u8], text: &'a [u8]) {
     let verdict = r.verdict;
     let state = r.state;
     print_verdict_or_run(verdict, &answers, r.count, state, script.fault, line);
-}
-
-// The same from a state that no texts start: the started one with another next serial.
-pub fn print_replay_at<'a>(plan: &'a [u8], policy: &'a [u8], text: &'a [u8], next: u32) {
-    let mut words = script::word_room();
-    let script = script::read_calls(text, &mut words);
-    let n = script.count;
-    let line = script::fault_line(text, n);
-    let mut answers = answer_room();
-    let started = monitor::start(plan, policy);
-    let verdict = started.verdict;
-    let mut state = started.state;
-    state.next = next;
-    let r = replaying::play(state, &words[0..n], &mut answers);
-    let after = r.state;
-    print_verdict_or_run(verdict, &answers, r.count, after, script.fault, line);
 }
