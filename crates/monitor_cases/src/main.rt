@@ -1,15 +1,6 @@
 // Runs stored lists of calls on stored pairs of texts: for each what replay prints. A case names the next serial that
 // the box starts with: 1, as every started box has it, or one so late that serials run out.
 
-// What replay prints, from that next serial on.
-fn print_case<'a>(plan: &'a [u8], policy: &'a [u8], calls: &'a [u8], next: u32) {
-    if next == 1 {
-        transcript::print_replay(plan, policy, calls);
-    } else {
-        latestart::print_replay_at(plan, policy, calls, next);
-    }
-}
-
 // One case of the file; false where there is none left.
 fn one_case(file: i32) -> bool {
     let mut plan = io::large_buffer();
@@ -22,7 +13,7 @@ fn one_case(file: i32) -> bool {
     let n = case.plan;
     let m = case.policy;
     let c = case.calls;
-    print_case(&plan[0..n], &policy[0..m], &calls[0..c], case.next);
+    latestart::print_replay_from(&plan[0..n], &policy[0..m], &calls[0..c], case.next);
     true
 }
 
