@@ -1,4 +1,6 @@
 // A verdict on one line, as stored cases have it.
+#![tactic(auto)]
+
 use rules::{Text, Verdict};
 
 // Which text, between the words of a line.

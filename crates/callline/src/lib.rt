@@ -1,5 +1,6 @@
 // One line of the text of calls: `step S B`, `send F T`, `raise S I` or `lower S I`, decimal numbers up to 4,294,967,295 without
 // leading zeros, one space apart. A call is its kind (0 step, 1 send, 2 raise, 3 lower) and its two numbers.
+#![tactic(auto)]
 
 #[derive(Drop)]
 enum Number {

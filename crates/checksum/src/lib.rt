@@ -1,4 +1,6 @@
 // One number for all that was read, so that a stored case can tell of every value.
+#![tactic(auto)]
+
 use plan::{Assertion, Form, Kind, Plan, Policy, Template};
 
 // One value more in the sum over all that was read.

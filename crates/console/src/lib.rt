@@ -1,4 +1,6 @@
 // What the programs share: a file read into a buffer, and lines of a key and a value.
+#![tactic(auto)]
+
 ghost use Rattle.std.specs.Prelude.{◌<◌};
 ghost use Rattle.io.specs.Counts.{IsPrefixLen};
 

@@ -1,5 +1,7 @@
 // Stored cases, one after the other in one file: for each a header of hexadecimal digits (the lengths of its texts and, where
 // it has calls, the next serial), then the texts.
+#![tactic(auto)]
+
 ghost use Rattle.std.specs.Prelude.{◌<◌, ◌≤◌, length};
 
 // The value of a hexadecimal digit; any other byte counts as 0.

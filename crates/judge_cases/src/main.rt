@@ -1,5 +1,7 @@
 // Judges stored pairs of texts: for each a line with the verdict, where the shown part lies and its first bytes.
 // The first 32 bytes at most, each as two digits.
+#![tactic(auto)]
+
 fn print_bytes(part: &[u8]) {
     let mut i = 0;
     while i < part.len() {

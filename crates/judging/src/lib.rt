@@ -1,4 +1,6 @@
 // What the program judge does: two files read, judged, and the verdict written.
+#![tactic(auto)]
+
 ghost use Rattle.std.specs.Prelude.{◌≡◌, ◌++◌, ◌≤◌, length, drop};
 ghost use Rattle.rules.specs.Judge.{judge, printed};
 

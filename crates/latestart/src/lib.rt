@@ -1,5 +1,7 @@
 // What replay prints from a state that no texts start: the started one with another next serial. So stored cases come to
 // refusal 24.
+#![tactic(auto)]
+
 fn print_replay_at<'a>(plan: &'a [u8], policy: &'a [u8], text: &'a [u8], next: u32) {
     let mut words = script::word_room();
     let script = script::read_calls(text, &mut words);

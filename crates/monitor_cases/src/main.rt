@@ -1,5 +1,6 @@
 // Runs stored lists of calls on stored pairs of texts: for each what replay prints. A case names the next serial that
 // the box starts with: 1, as every started box has it, or one so late that serials run out.
+#![tactic(auto)]
 
 // One case of the file; false where there is none left.
 fn one_case(file: i32) -> bool {

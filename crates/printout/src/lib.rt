@@ -1,4 +1,6 @@
 // Answers and a state as lines, as the program replay prints them.
+#![tactic(auto)]
+
 use machine::State;
 
 fn print_answer(code: u8) {

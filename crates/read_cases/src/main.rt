@@ -1,4 +1,6 @@
 // Reads stored pairs of texts: for each a line with what was read, or which text is refused, with number and line.
+#![tactic(auto)]
+
 use plan::{Plan, Policy};
 use text::Reading;
 

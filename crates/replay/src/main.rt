@@ -1,5 +1,7 @@
 // replay: reads plan.txt, policy.txt and calls.txt and prints the run of the calls. A buffer has more room than a text may
 // have bytes, so a file that is too long is seen to be.
+#![tactic(auto)]
+
 fn main() {
     let mut plan = io::large_buffer();
     let n = console::read_file(b"plan.txt", &mut plan);

@@ -1,4 +1,6 @@
 // A verdict as the program judge prints it, written into a lent buffer.
+#![tactic(auto)]
+
 ghost use Rattle.std.specs.Prelude.{◌≡◌, ◌++◌, ◌≤◌, ◌+◌, length, drop};
 ghost use Rattle.numerals.specs.Numerals.{decimal_width};
 ghost use Rattle.rules.specs.declared.Verdict.TheVariants.{Broken, Unread};

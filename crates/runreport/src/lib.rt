@@ -1,4 +1,6 @@
 // What a run of calls is printed as: the run of an accepted pair, or the verdict on another.
+#![tactic(auto)]
+
 use machine::State;
 use report::ROOM;
 use rules::Verdict;

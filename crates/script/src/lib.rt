@@ -1,4 +1,5 @@
 // The text of calls: a line for each (crate callline), ended by byte 10. A call becomes three words: its kind and its two numbers.
+#![tactic(auto)]
 
 ghost use Rattle.std.specs.Prelude.{◌≤◌, ◌≡◌, length};
 

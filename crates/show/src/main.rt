@@ -1,4 +1,6 @@
 // show: reads plan.txt and policy.txt and prints the part of them that the verdict points at, and byte 10.
+#![tactic(auto)]
+
 fn main() {
     let mut plan = io::large_buffer();
     let n = console::read_file(b"plan.txt", &mut plan);

@@ -1,4 +1,5 @@
 // Shows the part that the verdict points at, for stored pairs of texts, each on its own line.
+#![tactic(auto)]
 
 fn print_case<'a>(plan: &'a [u8], policy: &'a [u8]) {
     console::print(showing::show(plan, policy));

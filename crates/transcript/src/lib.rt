@@ -1,6 +1,8 @@
 // What the program replay prints of two texts and a text of calls. A pair that is not accepted is answered as judge
 // answers it. Else each call is answered on a line, and the state that the calls leave follows; a line that is no call
 // ends the run.
+#![tactic(auto)]
+
 ghost use Rattle.std.specs.Prelude.{◌≡◌, length};
 
 // As many as the longest text of calls can have.
