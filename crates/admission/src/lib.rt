@@ -1,4 +1,6 @@
 // Document 01, Step, 22 to 25: whether a process may take its step, and which children it then has.
+#![tactic(auto)]
+
 ghost use Rattle.std.specs.Prelude.{◌≡◌, not, ◌≤◌, get_or};
 ghost use Rattle.mask.specs.Sets.{Marks};
 ghost use Rattle.plan.specs.Listed.{listed};

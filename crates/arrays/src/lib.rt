@@ -1,5 +1,7 @@
 // Places of lent arrays: where a serial stands, and a store. What is public takes any numbers: none reads or stores past an
 // end.
+#![tactic(auto)]
+
 ghost use Rattle.std.specs.Prelude.{◌≡◌, true, cond, ◌≤◌, ◌+◌, length, set};
 ghost use Rattle.ranges.specs.Ranges.{rises};
 ghost use Rattle.arrays.specs.Places.{Split, Located};

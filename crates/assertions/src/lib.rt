@@ -1,5 +1,7 @@
 // Rules 17 to 19 over a plan and a policy. The layout for the routes is made once and lent to both kinds of assertion; each
 // makes its own searches over it.
+#![tactic(auto)]
+
 ghost use Rattle.std.specs.Prelude.{◌≡◌, cond};
 ghost use Rattle.layout.specs.Layout.{Laid};
 ghost use Rattle.rules.specs.declared.Verdict.TheVariants.{Accepted};

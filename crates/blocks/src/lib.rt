@@ -1,4 +1,6 @@
 // Blocks of words in lent arrays: copied, and moved down. What is public takes any numbers: none reads or stores past an end.
+#![tactic(auto)]
+
 ghost use Rattle.std.specs.Prelude.{◌≡◌, ℕ, ◌≤◌, ◌+◌, ◌-◌, min, get_or, length};
 ghost use Rattle.lists.specs.Writes.{written};
 ghost use Rattle.blocks.specs.Blocks.{copied, shifted};

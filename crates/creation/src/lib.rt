@@ -1,5 +1,7 @@
 // Rule 11 over a plan: no identifier is created twice. A count past the 64 places or an identifier past the 32 items of a mask is
 // met as the definitions meet it: a blank template and an empty mask create nothing.
+#![tactic(auto)]
+
 ghost use Rattle.std.specs.Prelude.{◌≡◌, ltb};
 ghost use Rattle.mask.specs.Sets.{Marks};
 ghost use Rattle.rules.specs.Judge.{next_creator, check11};

@@ -1,4 +1,6 @@
 // Document 01, Send, on a lent row and lent arrays, below refusal 20.
+#![tactic(auto)]
+
 ghost use Rattle.std.specs.Prelude.{◌≡◌, not, ◌&&◌, ◌||◌, List, ℕ, eqb};
 ghost use Rattle.mask.specs.Mask.{has};
 ghost use Rattle.planrow.specs.Lookup.{plan_for};

@@ -1,5 +1,7 @@
 // A call on the plan's row and on lent arrays: refusal 20 is tested here, once for every call; what comes after it is done by
 // the crates below.
+#![tactic(auto)]
+
 ghost use Rattle.machine.specs.State.{call_of};
 ghost use Rattle.planrow.specs.Lookup.{plan_for};
 ghost use Rattle.population.specs.Arrays.{cells};

@@ -1,5 +1,7 @@
 // Rules 12 to 16 over the edges of a plan. A count past the 64 places or an identifier past the 32 items of a mask is met as the
 // definitions meet it: blank templates and empty masks break nothing.
+#![tactic(auto)]
+
 ghost use Rattle.std.specs.Prelude.{◌≡◌};
 ghost use Rattle.mask.specs.Mask.{has};
 ghost use Rattle.rules.specs.Judge.{or_else, lowest_offender, check_edges};

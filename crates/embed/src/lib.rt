@@ -1,5 +1,7 @@
 // The monitor for a program in another language: exported functions over memory that the caller lends. What each promises
 // to a C program stands in include/monitor.h.
+#![tactic(auto)]
+
 ghost use Rattle.std.specs.Prelude.{◌≡◌};
 ghost use Rattle.machine.specs.State.{call_of};
 ghost use Rattle.planrow.specs.Row.{plan_of_row};

@@ -1,4 +1,6 @@
 // The row of a plan: a plan written as its words, which stand where crate planrow says (HEADER, WIDTH, WORDS).
+#![tactic(auto)]
+
 ghost use Rattle.std.specs.Prelude.{◌≡◌, ℕ, ◌+◌, ◌≤◌, get_or, length};
 ghost use Rattle.lists.specs.Writes.{written};
 ghost use Rattle.planrow.specs.Row.{width, form_number, first_of, second_of, words_of, row_of_plan};

@@ -1,4 +1,6 @@
 // The end of a text, the plan's or the policy's: what its last position answers.
+#![tactic(auto)]
+
 ghost use Rattle.std.specs.Prelude.{◌≡◌};
 ghost use Rattle.text.specs.Reading.{closed};
 ghost use Rattle.text.specs.Cursors.{cursor_of};

@@ -1,5 +1,7 @@
 // The seven lines of a template: its name and its form, its masks, whether it is at risk. As in crate text, a reader takes the
 // text and a position, and gives the lines' value and the next position.
+#![tactic(auto)]
+
 ghost use Rattle.std.specs.Prelude.{◌≡◌};
 ghost use Rattle.plan.specs.Plan.{masks};
 ghost use Rattle.text.specs.Reading.{entry};

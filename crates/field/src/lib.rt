@@ -1,5 +1,7 @@
 // The fields of the two texts that are numbers, masks and names, each read from the rest of its line after the key.
 // A field's answer is its value, or the number of the refusal.
+#![tactic(auto)]
+
 ghost use Rattle.std.specs.Prelude.{◌≡◌, ◌≤◌, ◌^◌, length, ltb};
 ghost use Rattle.lists.specs.Numbers.{all};
 ghost use Rattle.field.specs.Fields.{digit as digitOf, digits, decimal, number, mask as mask_of, name_byte, misplaced, declass as declassOf};

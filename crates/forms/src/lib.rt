@@ -1,5 +1,7 @@
 // The field of a `form=` line, read from the rest of its line after the key: a word, and one template number or two. A field's
 // answer is its value, or the number of the refusal.
+#![tactic(auto)]
+
 ghost use Rattle.std.specs.Prelude.{◌≡◌, ℕ};
 ghost use Rattle.plan.specs.declared.Form.{Form as FormOf};
 ghost use Rattle.plan.specs.declared.Form.TheVariants.{Go, Either, Both};

@@ -1,5 +1,7 @@
 // The fields of the two texts that are one word, each read from the rest of its line after the key: a risk, a kind. A field's
 // answer is its value, or the number of the refusal.
+#![tactic(auto)]
+
 ghost use Rattle.std.specs.Prelude.{◌≡◌};
 ghost use Rattle.field.specs.Fields.{risk, kind as kindWord};
 ghost use Rattle.keywords.specs.Answers.{risk_of, kind_of};

@@ -1,4 +1,6 @@
 // Document 01, Raise and lower, on a lent row and lent arrays, below refusal 20. They are one move; only the labels change.
+#![tactic(auto)]
+
 ghost use Rattle.std.specs.Prelude.{◌≡◌, List, ℕ, ◌<◌, ◌≤◌, ◌^◌};
 ghost use Rattle.planrow.specs.Lookup.{plan_for};
 ghost use Rattle.machine.specs.Machine.{movable, label_with};

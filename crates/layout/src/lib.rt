@@ -1,4 +1,6 @@
 // Lays a plan out for searching, once a judgement, to be lent from then on; and finds in what is lent who creates an identifier.
+#![tactic(auto)]
+
 ghost use Rattle.std.specs.Prelude.{◌≡◌};
 ghost use Rattle.route.specs.Search.{collect};
 ghost use Rattle.layout.specs.Layout.{first_of, second_of, is_fork, made_by, all_forks, layout_of};

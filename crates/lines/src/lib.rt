@@ -1,5 +1,7 @@
 // The lines of the two texts with a name or with words: `name=`, `form=`, `risk=` and `kind=`. As in crate text, a reader
 // takes the text and a position, and gives the line's value and the next position.
+#![tactic(auto)]
+
 ghost use Rattle.std.specs.Prelude.{◌≡◌, false, [], get_or};
 ghost use Rattle.plan.specs.declared.Form.TheVariants.{End};
 ghost use Rattle.plan.specs.declared.Kind.TheVariants.{Secrecy};

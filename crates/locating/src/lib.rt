@@ -1,4 +1,6 @@
 // Where the part lies that a verdict on two lent texts shows, as numbers: a line is found again by how many stand before it.
+#![tactic(auto)]
+
 ghost use Rattle.std.specs.Prelude.{◌≡◌, ◌≤◌, length};
 ghost use Rattle.rules.specs.declared.Verdict.TheVariants.{Unread};
 ghost use Rattle.rules.specs.Show.{line_start, line_end, faulty_line, name_of, kind_line, located};

@@ -1,4 +1,6 @@
 // The monitor's state and its answers. The functions on them stand in the crates above.
+#![tactic(auto)]
+
 use plan::Plan;
 use rules::Verdict;
 

@@ -1,5 +1,7 @@
 // Calls on the memory that a program in another language lends: a plan's row, whatever it means, and a box's place and
 // arrays.
+#![tactic(auto)]
+
 ghost use Rattle.machine.specs.State.{call_of};
 ghost use Rattle.planrow.specs.Row.{plan_of_row};
 ghost use Rattle.memory.specs.Memory.{held, Answers, Runs};

@@ -1,5 +1,7 @@
 // The operations by value: each takes any state at all and hands back the machine's answer and the machine's state, the very
 // state that it got unless it is done. See docs/ARCHITECTURE.md on why no state goes further down by value.
+#![tactic(auto)]
+
 ghost use Rattle.std.specs.Prelude.{◌≡◌};
 ghost use Rattle.machine.specs.Machine.{box_limits, step, send, raise, lower, run};
 ghost use Rattle.machine.specs.State.{machine_of, outcome_of, unless_done, call_of};

@@ -1,5 +1,7 @@
 // The lines of the two texts with a number or a mask. As in crate text, a reader takes the text and a position, and gives the
 // line's value and the next position.
+#![tactic(auto)]
+
 ghost use Rattle.std.specs.Prelude.{◌≡◌, ◌≤◌, ◌-◌};
 ghost use Rattle.scan.specs.Bytes.{bytes};
 ghost use Rattle.field.specs.Fields.{number, mask as mask_of, declass as declassOf};

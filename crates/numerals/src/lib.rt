@@ -1,4 +1,6 @@
 // Numbers written into a lent list of bytes, digit by digit.
+#![tactic(auto)]
+
 ghost use Rattle.std.specs.Prelude.{◌≡◌, ◌≤◌, ◌<◌, ◌+◌, ◌^◌, length};
 ghost use Rattle.std.proofs.lemmas.List.Edits.{sets};
 ghost use Rattle.numerals.specs.Numerals.{spell, decimal_width, decimal_of};

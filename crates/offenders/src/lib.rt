@@ -1,5 +1,7 @@
 // The identifiers that break a rule on the edge from template x to template y: one mask for each row of edge_rules, all with one
 // signature. lab is lab x where the judge asks, and the process's label where a step does.
+#![tactic(auto)]
+
 ghost use Rattle.std.specs.Prelude.{◌≡◌, ◌<◌};
 ghost use Rattle.lists.specs.Numbers.{lowest};
 ghost use Rattle.mask.specs.Mask.{has};

@@ -1,4 +1,6 @@
 // A plan and a policy as they are after reading, and what stands at a place of them.
+#![tactic(auto)]
+
 ghost use Rattle.std.specs.Prelude.{◌≡◌, min};
 ghost use Rattle.plan.specs.Plan.{blank, blank_assertion, at, successors, assertion_at};
 ghost use Rattle.plan.specs.Listed.{listed};

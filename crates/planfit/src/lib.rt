@@ -1,4 +1,6 @@
 // The plan's part of refusal 20, tested on the words of a row.
+#![tactic(auto)]
+
 ghost use Rattle.std.specs.Prelude.{◌≡◌, ◌&&◌, ◌||◌, ◌≤◌, ◌^◌, leb, ltb, length};
 ghost use Rattle.lists.specs.Numbers.{all};
 ghost use Rattle.plan.specs.Plan.{masks, template_fits};

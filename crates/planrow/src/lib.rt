@@ -1,4 +1,6 @@
 // A plan as a row of words: where they stand, and a template looked up in them.
+#![tactic(auto)]
+
 ghost use Rattle.std.specs.Prelude.{◌≡◌, true, ◌<◌, length};
 ghost use Rattle.planrow.specs.Row.{width, count_in, identifiers_in, form_of, template_of, is_template};
 ghost use Rattle.planrow.specs.Lookup.{word, part_at, template_at};

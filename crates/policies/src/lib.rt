@@ -1,4 +1,6 @@
 // Reading the policy, line by line, with no copy of the text (document 01, "The two texts" and "Reading").
+#![tactic(auto)]
+
 ghost use Rattle.std.specs.Prelude.{◌≡◌, ◌≤◌, length, replicate};
 ghost use Rattle.plan.specs.Plan.{blank_assertion};
 ghost use Rattle.text.specs.Reading.{on, longest, assertion, policy as policy_text, read_policy, no_policy};

@@ -1,4 +1,6 @@
 // What the calls on lent arrays share: the test of refusal 20, and what a call leaves beside the arrays.
+#![tactic(auto)]
+
 ghost use Rattle.std.specs.Prelude.{◌≡◌};
 ghost use Rattle.planrow.specs.Lookup.{plan_for};
 ghost use Rattle.machine.specs.Machine.{box_limits, well_formed};

@@ -1,4 +1,6 @@
 // Rules 18 and 19 over the lent layout of a plan. Parted is asked only where the labels leave the question open.
+#![tactic(auto)]
+
 ghost use Rattle.std.specs.Prelude.{◌≡◌, cond, ◌&&◌, min};
 ghost use Rattle.mask.specs.Mask.{has};
 ghost use Rattle.mask.specs.Sets.{plus_below};

@@ -1,4 +1,6 @@
 // Tests over a range of a lent array. Each takes any numbers, and answers "no" where the range passes the end.
+#![tactic(auto)]
+
 ghost use Rattle.std.specs.Prelude.{◌≡◌, ◌&&◌, ◌+◌, get_or, ltb, leb};
 ghost use Rattle.lists.specs.Numbers.{every};
 ghost use Rattle.ranges.specs.Ranges.{holds, rises};

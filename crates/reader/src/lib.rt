@@ -1,4 +1,6 @@
 // Reading the plan, line by line, with no copy of the text (document 01, "The two texts" and "Reading").
+#![tactic(auto)]
+
 ghost use Rattle.std.specs.Prelude.{◌≡◌, ◌≤◌, [], length, replicate};
 ghost use Rattle.plan.specs.Plan.{blank};
 ghost use Rattle.text.specs.Reading.{on, longest, plan as plan_text, read_plan, no_plan};

@@ -1,5 +1,7 @@
 // Both tag relations by searches over the lent layout of a plan (crate layout). Each search that a relation names is made,
 // whatever the others found (document 02, U13, counts them).
+#![tactic(auto)]
+
 ghost use Rattle.std.specs.Prelude.{◌≡◌, ◌<◌};
 ghost use Rattle.lists.specs.Numbers.{any};
 ghost use Rattle.plan.specs.Plan.{at, successors};

@@ -1,4 +1,6 @@
 // A list of calls on a state by value, and from the two texts: judged, started, and played.
+#![tactic(auto)]
+
 ghost use Rattle.machine.specs.State.{machine_of};
 ghost use Rattle.playback.specs.Playback.{Does, Replays};
 ghost use Rattle.playback.specs.Running.{PlayedAll};

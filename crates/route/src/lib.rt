@@ -1,5 +1,7 @@
 // The search over a plan that is lent as the successors of its templates: by value it would be copied at each template that is
 // entered. Crate layout lays a plan out so; crate relations asks both tag relations by these searches.
+#![tactic(auto)]
+
 ghost use Rattle.std.specs.Prelude.{◌≡◌};
 ghost use Rattle.route.specs.Search.{in_mask, including, is_open, enter, reach};
 ghost use Rattle.route.specs.Lent.{laid_out};

@@ -1,4 +1,6 @@
 // The judge's answers: their types, the first of two that is not accepted, and which rules are those of an edge.
+#![tactic(auto)]
+
 ghost use Rattle.std.specs.Prelude.{◌≡◌};
 ghost use Rattle.rules.specs.Judge.{or_else, is_edge_rule};
 ghost use Rattle.rules.specs.Broken.{accepted};

@@ -1,4 +1,6 @@
 // Bytes of a lent text: looking for one, comparing some, lending some on.
+#![tactic(auto)]
+
 ghost use Rattle.std.specs.Prelude.{◌≡◌, ◌-◌, min, length, take, drop};
 ghost use Rattle.scan.specs.Bytes.{before, starts_with, same, further};
 

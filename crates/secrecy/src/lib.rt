@@ -1,5 +1,7 @@
 // Rule 17 over the lent layout of a plan: the identifiers that a secrecy may rest on, and whether one of them serves.
 // Joined is asked only where the labels leave the question open.
+#![tactic(auto)]
+
 ghost use Rattle.std.specs.Prelude.{◌≡◌, cond, ◌&&◌, ℕ};
 ghost use Rattle.lists.specs.Numbers.{every, any};
 ghost use Rattle.mask.specs.Mask.{has, without};

@@ -1,5 +1,7 @@
 // What showing shows of two lent texts: they are judged, and the part that the verdict shows is handed back, as numbers or as
 // the caller's own bytes, with no copy. Crate locating finds where it lies.
+#![tactic(auto)]
+
 ghost use Rattle.std.specs.Prelude.{◌≡◌};
 ghost use Rattle.rules.specs.Show.{located, between, lying, locate, shown};
 ghost use Rattle.showing.specs.Places.{lying_in};

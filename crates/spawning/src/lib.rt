@@ -1,5 +1,7 @@
 // The arrays when a process goes and its children come: the places above it move down, its children come after all others.
 // What is public takes any numbers; what the arrays then mean is said where there is room.
+#![tactic(auto)]
+
 ghost use Rattle.std.specs.Prelude.{◌≡◌, ◌<◌, ◌≤◌};
 ghost use Rattle.lists.specs.Numbers.{tabulate};
 ghost use Rattle.machine.specs.State.{placed, processes_of};

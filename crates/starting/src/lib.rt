@@ -1,4 +1,6 @@
 // Start: two texts judged, and the one state that they give, the root's where they are accepted and else the blank one.
+#![tactic(auto)]
+
 ghost use Rattle.std.specs.Prelude.{◌≡◌};
 ghost use Rattle.rules.specs.Judge.{judge};
 ghost use Rattle.machine.specs.State.{machine_of, blank_state, root_state, started, started_state};

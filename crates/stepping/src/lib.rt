@@ -1,4 +1,6 @@
 // Document 01, Step, on a lent row and lent arrays, below refusal 20: the process is found, and refused or moved on.
+#![tactic(auto)]
+
 ghost use Rattle.std.specs.Prelude.{◌<◌, ◌≤◌};
 ghost use Rattle.planrow.specs.Lookup.{plan_for};
 ghost use Rattle.machine.specs.Machine.{step};

@@ -1,5 +1,7 @@
 // Rows of tags: where one begins, one copied, and one written for a child. What is public takes any numbers: none reads or
 // stores past an end.
+#![tactic(auto)]
+
 ghost use Rattle.std.specs.Prelude.{◌≡◌, ℕ, ◌<◌, ◌≤◌, ◌+◌, ◌*◌, min, get_or, length};
 ghost use Rattle.lists.specs.Numbers.{tabulate};
 ghost use Rattle.lists.specs.Writes.{written};

@@ -1,5 +1,7 @@
 // A line of the two texts opened. A reader takes the text and a position, and gives the line's value and the next position.
 // Once a line is refused the position stays there: later lines are not looked at, and what they give is blank.
+#![tactic(auto)]
+
 ghost use Rattle.std.specs.Prelude.{◌≡◌};
 ghost use Rattle.text.specs.Cursors.{stands, cursor_of, span_of, opened, opened_of, Within};
 

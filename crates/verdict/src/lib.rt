@@ -1,4 +1,6 @@
 // The judge over the two texts.
+#![tactic(auto)]
+
 ghost use Rattle.std.specs.Prelude.{◌≡◌};
 ghost use Rattle.plan.specs.Range.{InRange};
 ghost use Rattle.rules.specs.Judge.{judge_read, judge};

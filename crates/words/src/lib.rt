@@ -1,4 +1,6 @@
 // What the judge answers as words, for a caller in another language (include/monitor.h).
+#![tactic(auto)]
+
 ghost use Rattle.std.specs.Prelude.{◌≡◌};
 ghost use Rattle.rules.specs.Judge.{text_number, numbers_of};
 ghost use Rattle.words.specs.Words.{part_words};
