@@ -50,7 +50,7 @@ fn read_text(file: i32, buffer: &mut [u8], size: usize) -> usize
 }
 
 // How many bytes of a case's two texts are now in the buffers; found is false where there is no case left.
-#[derive(Drop)]
+#[derive(Clone, Copy)]
 pub struct Pair {
     pub found: bool,
     pub plan: usize,
@@ -80,7 +80,7 @@ pub fn read_pair(file: i32, plan: &mut [u8], policy: &mut [u8]) -> Pair
 
 // How many bytes of a case's two texts and of its calls are now in the buffers, and the next serial that its box starts
 // with; found is false where there is no case left.
-#[derive(Drop)]
+#[derive(Clone, Copy)]
 pub struct Run {
     pub found: bool,
     pub plan: usize,
