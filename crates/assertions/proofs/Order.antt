@@ -114,9 +114,9 @@ module _ (plan : Plan) (policy : Policy) where
       go true e = refl
       go false e = absurd (broken_accepted e)
 
-  module _ (B : Type 0) (f : Assertion → B) (full : length (map f policy.assertions) ≡ 32) where
+  module _ (full : length policy.assertions ≡ 32) where
     blank_at : (i : ℕ) → 32 ≤ i → each i ≡ check_assertion plan i blank_assertion Secrecy
-    blank_at i h = ap (λ (a : Assertion). check_assertion plan i a a.kind) (assertion_past B f policy full i h)
+    blank_at i h = ap (λ (a : Assertion). check_assertion plan i a a.kind) (assertion_past policy full i h)
 
     alike : each 32 ≡ Accepted → (i : ℕ) → 32 ≤ i → each i ≡ Accepted
     alike e i h = blank_at i h ∙ blank_alike 32 i (sym (blank_at 32 (omega arith)) ∙ e)

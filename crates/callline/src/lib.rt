@@ -2,7 +2,7 @@
 // leading zeros, one space apart. A call is its kind (0 step, 1 send, 2 raise, 3 lower) and its two numbers.
 #![tactic(auto)]
 
-#[derive(Drop)]
+#[derive(Clone, Copy)]
 enum Number {
     Is(u32),
     Bad,
@@ -61,7 +61,7 @@ fn kind_of(word: &[u8]) -> u32 {
     4
 }
 
-#[derive(Drop)]
+#[derive(Clone, Copy)]
 pub enum Line {
     Call(u32, u32, u32),
     Bad,

@@ -53,7 +53,7 @@ fn read_text(file: &mut impl Read, buffer: &mut [u8], size: usize) -> io::Result
 }
 
 // How many bytes of a case's two texts are now in the buffers; found is false where there is no case left.
-#[derive(Drop)]
+#[derive(Clone, Copy)]
 pub struct Pair {
     pub found: bool,
     pub plan: usize,
@@ -83,7 +83,7 @@ pub fn read_pair(file: &mut impl Read, plan: &mut [u8], policy: &mut [u8]) -> io
 
 // How many bytes of a case's two texts and of its calls are now in the buffers, and the next serial that its box starts
 // with; found is false where there is no case left.
-#[derive(Drop)]
+#[derive(Clone, Copy)]
 pub struct Run {
     pub found: bool,
     pub plan: usize,

@@ -93,10 +93,10 @@ module _ (plan : Plan) where
       ∙ sym (lowest_any plan.count (λ X. ltb (creator plan t) X && creates plan t X))
 
   -- Past the places nothing is created.
-  module _ (B : Type 0) (f : Template → B) (full : length (map f plan.templates) ≡ 64) where
+  module _ (full : length plan.templates ≡ 64) where
     unmade : (t X : ℕ) → 64 ≤ X → creates plan t X ≡ false
     unfolding creates
-    unmade t X h = ap (λ (y : Template). has t y.creates) (template_past B f plan full X h) ∙ has_none t
+    unmade t X h = ap (λ (y : Template). has t y.creates) (template_past plan full X h) ∙ has_none t
 
     not_again : (t Y : ℕ) → 64 ≤ Y → (made Y t && creates plan t Y) ≡ false
     not_again t Y h = ap (λ (x : Bool). made Y t && x) (unmade t Y h) ∙ and-false (made Y t)
@@ -170,7 +170,7 @@ module _ (plan : Plan) where
         sym (ap (λ (u : ℕ). cond (ltb u plan.identifiers) (broken 11 (creator plan u) (next_creator plan u) u) Accepted) found
         ∙ ap (λ (c : Bool). cond c (broken 11 (creator plan t) (next_creator plan t) t) Accepted) (le-ltb t plan.identifiers h))
 
-    module _ (B : Type 0) (f : Template → B) (full : length (map f plan.templates) ≡ 64) (h : t < plan.identifiers) where
+    module _ (full : length plan.templates ≡ 64) (h : t < plan.identifiers) where
       passes : twice_test t ≡ true
       passes = subst (λ (u : ℕ). twice_test u ≡ true) found (lowest-holds plan.identifiers twice_test (subst (λ (u : ℕ). u < plan.identifiers) (sym found) h))
 
@@ -190,7 +190,7 @@ module _ (plan : Plan) where
       unfolding creator creator_from
       first_is =
           lowest_ext (placed plan) (from_on 0 t) (creates plan t) (λ i k. ap (λ (x : Bool). x && creates plan t i) (le-leb 0 i (omega arith)))
-          ∙ lowest_shorter (placed plan) plan.count (creates plan t) (λ i k j. unmade B f full t i (omega arith)) first_inside
+          ∙ lowest_shorter (placed plan) plan.count (creates plan t) (λ i k j. unmade full t i (omega arith)) first_inside
 
       past : (i : ℕ) → leb (creator plan t + 1) i ≡ ltb (creator plan t) i
       past i = ⊎_elim (λ k. le-leb (creator plan t + 1) i (omega arith) ∙ sym (lt-ltb (creator plan t) i k)) (λ g. lt-leb (creator plan t + 1) i (omega arith) ∙ sym (le-ltb (creator plan t) i g)) (lt_or_le (creator plan t) i)
@@ -200,7 +200,7 @@ module _ (plan : Plan) where
       next_is =
           lowest_ext (placed plan) (from_on (creator plan t + 1) t) later (λ i k. ap (λ (x : Bool). x && creates plan t i) (past i))
           ∙ lowest_shorter (placed plan) plan.count later
-          (λ i k j. ap (λ (x : Bool). ltb (creator plan t) i && x) (unmade B f full t i (omega arith)) ∙ and-false (ltb (creator plan t) i)) next_inside
+          (λ i k j. ap (λ (x : Bool). ltb (creator plan t) i && x) (unmade full t i (omega arith)) ∙ and-false (ltb (creator plan t) i)) next_inside
 
       pub made_twice : (X Y : ℕ) → X ≡ creator_from plan 0 t → Y ≡ creator_from plan (X + 1) t → broken 11 X Y t ≡ check11 plan
       unfolding check11 twice_test

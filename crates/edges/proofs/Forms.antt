@@ -69,8 +69,8 @@ module _ (plan : Plan) where
   abbrev each : ℕ → Verdict
   each X = first_in (successors (at plan X).form) (check_edge plan X)
 
-  pub edges_start : (B : Type 0) (f : Template → B) → length (map f plan.templates) ≡ 64 → (n : ℕ) → n ≡ min plan.count 64 → Passed plan n 0
-  edges_start B f full n e = record { whole = e; past = template_past B f plan full; below = omega arith; so_far = below_none each }
+  pub edges_start : length plan.templates ≡ 64 → (n : ℕ) → n ≡ min plan.count 64 → Passed plan n 0
+  edges_start full n e = record { whole = e; past = template_past plan full; below = omega arith; so_far = below_none each }
 
   module _ (n x : ℕ) (p : Passed plan n x) where
     -- Past the places no template has an edge.

@@ -9,7 +9,7 @@ use plan::{Form, Plan, Template};
 use planrow::{HEADER, WIDTH, WORDS};
 
 // A form's three words.
-#[derive(Drop)]
+#[derive(Clone, Copy)]
 struct FormWords {
     number: u32,
     first: u8,

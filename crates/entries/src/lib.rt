@@ -12,7 +12,7 @@ ghost use Rattle.entries.specs.Entry.{mask_keys, mask_lines, entry_of};
 use plan::{Form, Template};
 use text::Position;
 
-#[derive(Drop)]
+#[derive(Clone, Copy)]
 pub struct MasksRead {
     pub template: Template,
     pub next: Position,
@@ -43,7 +43,7 @@ fn read_masks(text: &[u8], from: Position, form: Form, m: u8) -> MasksRead
 }
 
 // Where the name of a template stands, the template, and the position after its lines.
-#[derive(Drop)]
+#[derive(Clone, Copy)]
 pub struct EntryRead {
     pub start: usize,
     pub end: usize,

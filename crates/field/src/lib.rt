@@ -26,7 +26,7 @@ pub const STOOD: u8 = 5;
 pub const MISPLACED: u8 = 6;
 
 // A field of a number or a mask.
-#[derive(Drop)]
+#[derive(Clone, Copy)]
 pub enum NumberField {
     Is(u64),
     Bad(u8),

@@ -12,7 +12,7 @@ use field::NumberField;
 use plan::Form;
 
 // A field of two template numbers.
-#[derive(Drop)]
+#[derive(Clone, Copy)]
 pub enum PairField {
     Is(u8, u8),
     Bad(u8),
@@ -44,7 +44,7 @@ fn read_pair(s: &[u8], n: u8) -> PairField
 }
 
 // The field of a `form=` line.
-#[derive(Drop)]
+#[derive(Clone, Copy)]
 pub enum FormField {
     Is(Form),
     Bad(u8),

@@ -9,7 +9,7 @@ ghost use Rattle.keywords.specs.Answers.{risk_of, kind_of};
 use plan::Kind;
 
 // The field of a `risk=` line.
-#[derive(Drop)]
+#[derive(Clone, Copy)]
 pub enum RiskField {
     Is(bool),
     Bad(u8),
@@ -29,7 +29,7 @@ pub fn read_risk(s: &[u8]) -> RiskField
 }
 
 // The field of a `kind=` line.
-#[derive(Drop)]
+#[derive(Clone, Copy)]
 pub enum KindField {
     Is(Kind),
     Bad(u8),

@@ -8,7 +8,7 @@ ghost use Rattle.layout.specs.Layout.{first_of, second_of, is_fork, made_by, all
 use plan::{Form, Plan};
 
 // A plan laid out: the successors of each template, the masks of what each creates, and the forks.
-#[derive(Drop)]
+#[derive(Clone, Copy)]
 pub struct Layout {
     pub first: [u8; 64],
     pub second: [u8; 64],

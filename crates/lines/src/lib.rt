@@ -42,7 +42,7 @@ fn name_stood(text: &[u8], name: &[u8], starts: &[usize], ends: &[usize], count:
 }
 
 // The field of a `name=` line.
-#[derive(Drop)]
+#[derive(Clone, Copy)]
 pub enum NameField {
     Fresh,
     Bad(u8),
@@ -62,7 +62,7 @@ fn read_name(text: &[u8], name: &[u8], starts: &[usize], ends: &[usize], count: 
 }
 
 // Where the name stands; nowhere if the line is refused.
-#[derive(Drop)]
+#[derive(Clone, Copy)]
 pub struct NameLine {
     pub start: usize,
     pub end: usize,
@@ -106,7 +106,7 @@ pub fn name_line(
     }
 }
 
-#[derive(Drop)]
+#[derive(Clone, Copy)]
 pub struct FormLine {
     pub value: Form,
     pub next: Position,
@@ -134,7 +134,7 @@ pub fn form_line(text: &[u8], from: Position, n: u8) -> FormLine
     }
 }
 
-#[derive(Drop)]
+#[derive(Clone, Copy)]
 pub struct RiskLine {
     pub value: bool,
     pub next: Position,
@@ -159,7 +159,7 @@ pub fn risk_line(text: &[u8], from: Position) -> RiskLine
     }
 }
 
-#[derive(Drop)]
+#[derive(Clone, Copy)]
 pub struct KindLine {
     pub value: Kind,
     pub next: Position,

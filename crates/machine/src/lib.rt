@@ -18,7 +18,7 @@ pub struct State {
 }
 
 // Done: a step, a raise or a lower that was accepted. Held means lost.
-#[derive(Drop)]
+#[derive(Clone, Copy)]
 pub enum Answer {
     Done,
     Delivered,

@@ -11,7 +11,7 @@ use field::NumberField;
 use plan::Kind;
 use text::{Line, Position};
 
-#[derive(Drop)]
+#[derive(Clone, Copy)]
 pub struct NumberLine {
     pub value: u8,
     pub next: Position,
@@ -50,7 +50,7 @@ pub fn number_line(
     }
 }
 
-#[derive(Drop)]
+#[derive(Clone, Copy)]
 pub struct MaskLine {
     pub value: u32,
     pub next: Position,
@@ -75,7 +75,7 @@ pub fn mask_line(text: &[u8], from: Position, key: &[u8], items: u8) -> MaskLine
     }
 }
 
-#[derive(Drop)]
+#[derive(Clone, Copy)]
 pub struct DeclassLine {
     pub value: u64,
     pub next: Position,

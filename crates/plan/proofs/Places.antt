@@ -2,7 +2,6 @@
 -- over, of the list seen through a function.
 use Prim.Native.Nat.{ℕ, ◌≤◌}
 use mathlib.Core.Path.{◌≡◌, sym}
-use mathlib.Core.List.{map}
 use lib.ListN.{length}
 use Rattle.lists.proofs.Length.{past_end}
 use Rattle.plan.specs.declared.Template.{Template}
@@ -11,11 +10,11 @@ use Rattle.plan.specs.declared.Assertion.{Assertion}
 use Rattle.plan.specs.declared.Policy.{Policy}
 use Rattle.plan.specs.Plan.{blank, blank_assertion, at, assertion_at}
 
-pub template_past : (B : Type 0) (f : Template → B) (plan : Plan) → length (map f plan.templates) ≡ 64 → (X : ℕ) → 64 ≤ X → at plan X ≡ blank
+pub template_past : (plan : Plan) → length plan.templates ≡ 64 → (X : ℕ) → 64 ≤ X → at plan X ≡ blank
 unfolding at
-template_past B f plan e X h = sym (past_end Template B f plan.templates 64 X blank e h)
+template_past plan e X h = sym (past_end Template plan.templates 64 X blank e h)
 
-pub assertion_past : (B : Type 0) (f : Assertion → B) (policy : Policy) → length (map f policy.assertions) ≡ 32 → (i : ℕ) → 32 ≤ i
+pub assertion_past : (policy : Policy) → length policy.assertions ≡ 32 → (i : ℕ) → 32 ≤ i
     → assertion_at policy i ≡ blank_assertion
 unfolding assertion_at
-assertion_past B f policy e i h = sym (past_end Assertion B f policy.assertions 32 i blank_assertion e h)
+assertion_past policy e i h = sym (past_end Assertion policy.assertions 32 i blank_assertion e h)

@@ -9,7 +9,7 @@ ghost use Rattle.plan.specs.Listed.{listed};
 pub const MASKS: usize = 4;
 
 // Document 01, `form=`: the numbers are the successors Y and Z.
-#[derive(Drop)]
+#[derive(Clone, Copy)]
 pub enum Form {
     End,
     Go(u8),
@@ -18,7 +18,7 @@ pub enum Form {
 }
 
 // The masks are over identifiers; risk: its processes may be taken over.
-#[derive(Drop)]
+#[derive(Clone, Copy)]
 pub struct Template {
     pub form: Form,
     pub lab: u32,
@@ -29,21 +29,21 @@ pub struct Template {
 }
 
 // Document 01's N, M and templates; the places at N and past it are blank in every plan that was read.
-#[derive(Drop)]
+#[derive(Clone, Copy)]
 pub struct Plan {
     pub count: usize,
     pub identifiers: u32,
     pub templates: [Template; 64],
 }
 
-#[derive(Drop)]
+#[derive(Clone, Copy)]
 pub enum Kind {
     Secrecy,
     Prot,
 }
 
 // source, sink and anc are template numbers, declass is a mask over templates.
-#[derive(Drop)]
+#[derive(Clone, Copy)]
 pub struct Assertion {
     pub kind: Kind,
     pub source: u8,
@@ -53,14 +53,14 @@ pub struct Assertion {
 }
 
 // Document 01's K and assertions; the places at K and past it are blank in every policy that was read.
-#[derive(Drop)]
+#[derive(Clone, Copy)]
 pub struct Policy {
     pub count: usize,
     pub assertions: [Assertion; 32],
 }
 
 // The successors of a template: none, the first alone, or both.
-#[derive(Drop)]
+#[derive(Clone, Copy)]
 pub struct Successors {
     pub count: u8,
     pub first: u8,

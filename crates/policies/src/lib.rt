@@ -10,7 +10,7 @@ ghost use Rattle.policies.specs.Rows.{listed};
 use plan::{Assertion, Policy};
 use text::{PolicyRead, Position, Reading, Refusal};
 
-#[derive(Drop)]
+#[derive(Clone, Copy)]
 pub struct AssertionRead {
     pub assertion: Assertion,
     pub next: Position,
@@ -41,7 +41,7 @@ fn read_assertion(text: &[u8], from: Position, n: u8) -> AssertionRead
     AssertionRead { assertion, next }
 }
 
-#[derive(Drop)]
+#[derive(Clone, Copy)]
 pub struct AssertionsRead {
     pub assertions: [Assertion; 32],
     pub next: Position,
@@ -69,7 +69,7 @@ fn read_assertions(text: &[u8], from: Position, n: u8, k: u8) -> AssertionsRead
     }
 }
 
-#[derive(Drop)]
+#[derive(Clone, Copy)]
 pub struct PolicyLines {
     pub policy: Policy,
     pub next: Position,

@@ -33,7 +33,7 @@ pub const NOT_AT_RISK: u8 = 28;
 pub const NOT_ALLOWED: u8 = 29;
 
 // What a call leaves beside the arrays.
-#[derive(Drop)]
+#[derive(Clone, Copy)]
 pub struct Settled {
     pub answer: Answer,
     pub next: u32,

@@ -11,7 +11,7 @@ use plan::Assertion;
 use rules::{Breach, Verdict};
 
 // What a prot asks of labels: how many identifiers there are, lab Source and lab Sink.
-#[derive(Drop)]
+#[derive(Clone, Copy)]
 pub struct Labels {
     pub limit: u32,
     pub source: u32,

@@ -13,7 +13,7 @@ use text::{PlanRead, Position, Reading, Refusal};
 // The number of the refusal of a text that is too long.
 pub const TOO_LONG: u8 = 1;
 
-#[derive(Drop)]
+#[derive(Clone, Copy)]
 pub struct EntriesRead {
     pub templates: [Template; 64],
     pub next: Position,
@@ -45,7 +45,7 @@ fn read_entries(text: &[u8], from: Position, n: u8, m: u8) -> EntriesRead
     }
 }
 
-#[derive(Drop)]
+#[derive(Clone, Copy)]
 pub struct PlanLines {
     pub plan: Plan,
     pub next: Position,

@@ -8,21 +8,21 @@ ghost use Rattle.route.specs.Lent.{laid_out};
 
 // What crate relations hands on between its searches, here because the tests of Search.antt name it: a template to be
 // reached, and the mask of the ways that lead to it.
-#[derive(Drop)]
+#[derive(Clone, Copy)]
 pub struct Target {
     pub place: u8,
     pub ways: u64,
 }
 
 // The template of the source and that of the sink.
-#[derive(Drop)]
+#[derive(Clone, Copy)]
 pub struct Targets {
     pub source: Target,
     pub sink: Target,
 }
 
 // Masks over forks: those reached from the root, those whose branches need no way, and those where a way will do.
-#[derive(Drop)]
+#[derive(Clone, Copy)]
 pub struct Forks {
     pub reached: u64,
     pub direct: u64,

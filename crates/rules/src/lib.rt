@@ -6,14 +6,14 @@ ghost use Rattle.rules.specs.Judge.{or_else, is_edge_rule};
 ghost use Rattle.rules.specs.Broken.{accepted};
 
 // Which of the two texts.
-#[derive(Drop)]
+#[derive(Clone, Copy)]
 pub enum Text {
     Plan,
     Policy,
 }
 
 // A text that was not read: document 01's text, number and line.
-#[derive(Drop)]
+#[derive(Clone, Copy)]
 pub struct Fault {
     pub text: Text,
     pub number: u8,
@@ -21,7 +21,7 @@ pub struct Fault {
 }
 
 // The first broken rule, with document 01's first, second and identifier.
-#[derive(Drop)]
+#[derive(Clone, Copy)]
 pub struct Breach {
     pub rule: u8,
     pub first: u8,
@@ -29,7 +29,7 @@ pub struct Breach {
     pub identifier: u8,
 }
 
-#[derive(Drop)]
+#[derive(Clone, Copy)]
 pub enum Verdict {
     Accepted,
     Broken(Breach),
@@ -37,7 +37,7 @@ pub enum Verdict {
 }
 
 // The bytes from start to end of one of the texts.
-#[derive(Drop)]
+#[derive(Clone, Copy)]
 pub struct Part {
     pub text: Text,
     pub start: usize,

@@ -10,7 +10,7 @@ use machine::Answer;
 use planrow::WORDS;
 
 // What a list of calls leaves beside the arrays, and how many calls were run.
-#[derive(Drop)]
+#[derive(Clone, Copy)]
 pub struct Place {
     pub next: u32,
     pub live: u32,

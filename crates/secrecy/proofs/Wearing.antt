@@ -80,11 +80,11 @@ module _ (plan : Plan) (worn declass : ℕ) where
     }
 
     -- Past the places no template removes anything.
-    module _ (B : Type 0) (f : Template → B) (full : length (map f plan.templates) ≡ 64) where
+    module _ (full : length plan.templates ≡ 64) where
       kept_past : (t X : ℕ) → 64 ≤ X → keeps plan declass t X ≡ true
       unfolding keeps
       kept_past t X h =
-          ap (λ (a : Template). has X declass || not (has t a.neg)) (template_past B f plan full X h)
+          ap (λ (a : Template). has X declass || not (has t a.neg)) (template_past plan full X h)
           ∙ ap (λ (b : Bool). has X declass || not b) (has_none t) ∙ or-true (has X declass)
 
       pub kept_end : n ≤ x → (t : ℕ) → has t kept ≡ (has t worn && every plan.count (keeps plan declass t))

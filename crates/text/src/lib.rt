@@ -8,41 +8,41 @@ ghost use Rattle.text.specs.Cursors.{stands, cursor_of, span_of, opened, opened_
 use plan::{Plan, Policy};
 
 // Document 01's number and line of a refused text.
-#[derive(Drop)]
+#[derive(Clone, Copy)]
 pub struct Refusal {
     pub number: u8,
     pub line: u32,
 }
 
-#[derive(Drop)]
+#[derive(Clone, Copy)]
 pub enum Reading {
     Complete,
     Refused(Refusal),
 }
 
 // A refused text hands back the blank plan.
-#[derive(Drop)]
+#[derive(Clone, Copy)]
 pub struct PlanRead {
     pub answer: Reading,
     pub plan: Plan,
 }
 
 // A refused text hands back the blank policy.
-#[derive(Drop)]
+#[derive(Clone, Copy)]
 pub struct PolicyRead {
     pub answer: Reading,
     pub policy: Policy,
 }
 
 // Where reading stands: the start of a line and its number, or the refusal's number and line.
-#[derive(Drop)]
+#[derive(Clone, Copy)]
 pub enum Position {
     On(usize, u32),
     Stopped(u8, u32),
 }
 
 // Where the field of a line starts and ends.
-#[derive(Drop)]
+#[derive(Clone, Copy)]
 pub enum Span {
     At(usize, usize),
     Missing,
@@ -64,7 +64,7 @@ fn read_field(rest: &[u8], key: &[u8]) -> Span
 
 // A line that has its key: where its field starts and ends in the text, and the line's number. Or where reading stands
 // without it.
-#[derive(Drop)]
+#[derive(Clone, Copy)]
 pub enum Line {
     Open(usize, usize, u32),
     Closed(Position),
