@@ -5,8 +5,7 @@ use mathlib.Core.Bool.{Bool, true, false, not, ◌&&◌, ◌||◌}
 use lib.Dec.{eqb}
 use Rattle.lists.specs.Numbers.{all}
 use Rattle.rules.specs.Judge.{edge_rules, is_edge_rule}
-use Rattle.rules.proofs.is_edge_rule.Statement.{statement}
-use Rattle.rules.proofs.is_edge_rule.Tie as tie
+use Rattle.rules.proofs.is_edge_rule.Goals as goal
 
 some-row : (a b c d e : Bool) → ((((a || b) || c) || d) || e) ≡ not (not a && (not b && (not c && (not d && (not e && true)))))
 some-row true b c d e = refl
@@ -20,8 +19,5 @@ numbered : (n : ℕ) → ((((eqb n 12 || eqb n 13) || eqb n 14) || eqb n 15) || 
 unfolding is_edge_rule edge_rules all
 numbered n = some-row (eqb n 12) (eqb n 13) (eqb n 14) (eqb n 15) (eqb n 16)
 
-returns : tie.Need-returns
+pub returns : goal.returns
 returns c = search numbered
-
-pub is-edge-rule-spec : {M : Type 1} → statement M
-is-edge-rule-spec = tie.close (tie.spec returns)
