@@ -1,0 +1,16 @@
+-- The words are tried in the definition's order.
+use Rattle.scan.proofs.Ways.{cond_yes, cond_no}
+use Rattle.field.specs.Fields.{risk}
+use Rattle.keywords.proofs.read_risk.Goals as goal
+
+pub returns-then-same_bytes : goal.returns-then-same_bytes
+unfolding risk
+returns-then-same_bytes c = search (cond_yes, cond_no)
+
+pub returns-then-same_bytes-2 : goal.returns-then-same_bytes-2
+unfolding risk
+returns-then-same_bytes-2 c = search (cond_yes, cond_no)
+
+pub returns : goal.returns
+unfolding risk
+returns c = search (cond_yes, cond_no)

@@ -1,0 +1,14 @@
+use Prim.Native.Nat.{◌-◌, ◌≤◌}
+use mathlib.Core.Path.{◌≡◌}
+use native.Mathlib.Omega.{arith}
+use Rattle.route.specs.Search.{collect}
+use Rattle.layout.specs.Layout.{made_by}
+use Rattle.layout.proofs.Collecting.{collect_none, creators_more, collect_end}
+use borrow.Author.Rules.{rules}
+use Rattle.layout.proofs.creators.Given as goal
+
+abbrev pub invariant-loop-x : goal.invariant-loop-x
+invariant-loop-x l = (l.x ≤ 64) × (l.found ≡ collect l.x (made_by l.creates l.t))
+
+abbrev pub decreases-loop-x : goal.decreases-loop-x
+decreases-loop-x l = 64 - l.x

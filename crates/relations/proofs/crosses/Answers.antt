@@ -1,0 +1,7 @@
+-- `relations::crosses` is the test of `crosses` with each of its four parts asked once.
+use borrow.Author.Rules.{rules}
+use Rattle.relations.proofs.Steps.{crosses_is}
+use Rattle.relations.proofs.crosses.Goals as goal
+
+pub returns : goal.returns
+returns c = search crosses_is

@@ -1,0 +1,7 @@
+-- `relations::leads` is the test of `leads` with one search made.
+use borrow.Author.Rules.{rules}
+use Rattle.relations.proofs.Steps.{leads_is}
+use Rattle.relations.proofs.leads.Goals as goal
+
+pub returns : goal.returns
+returns c = search leads_is

@@ -1,0 +1,7 @@
+-- `relations::only` is `including` for the empty mask.
+use borrow.Author.Rules.{rules}
+use Rattle.relations.proofs.Steps.{only_is}
+use Rattle.relations.proofs.only.Goals as goal
+
+pub returns : goal.returns
+returns c = search only_is

@@ -1,0 +1,6 @@
+-- The last row begins at 4064.
+use borrow.Author.Rules.{rules}
+use Rattle.tagrows.proofs.write_row.Goals as goal
+
+pub returns : goal.returns
+returns c = rw c.least.ensures.0 at c.write_tags.ensures
