@@ -37,9 +37,8 @@ fn print_tags<W: Write>(out: &mut W, tags: &[u32], from: usize, to: usize) -> io
     Ok(())
 }
 
-fn print_process<W: Write>(out: &mut W, state: State, place: u32) -> io::Result<()> {
-    let plan = state.plan;
-    let m = plan.identifiers;
+fn print_process<W: Write>(out: &mut W, state: &State, place: u32) -> io::Result<()> {
+    let m = state.plan.identifiers;
     if 32 < m {
         return Ok(());
     }
@@ -71,7 +70,7 @@ pub fn print_state<W: Write>(out: &mut W, state: State) -> io::Result<()> {
     console::print_number(out, state.live as u64)?;
     console::print(out, b"\n")?;
     for place in 0..state.live {
-        print_process(out, state, place)?;
+        print_process(out, &state, place)?;
     }
     Ok(())
 }
