@@ -115,9 +115,9 @@ pub risk_law : Law (λ (b : Bool). Unit) 1 risk risk_of
 unfolding risk risk_of same
 risk_law =
     record {
-      back = λ b h. elim b [ true ↦ refl | false ↦ refl ];
-      plain = λ b h. elim b [ true ↦ refl | false ↦ refl ];
-      short = λ b h. elim b [ true ↦ omega arith | false ↦ omega arith ];
+      back = λ b h. elim b as (λ x. risk (risk_of x) ≡ is x) [ true ↦ refl | false ↦ refl ];
+      plain = λ b h. elim b as (λ x. free 10 (risk_of x) ≡ true) [ true ↦ refl | false ↦ refl ];
+      short = λ b h. elim b as (λ x. length (risk_of x) ≤ 1) [ true ↦ omega arith | false ↦ omega arith ];
       only = λ s. each_if (λ b. s ≡ risk_of b) (same s (bytes "0")) (is false) _ (λ q. each_is _ false (same_eq s (bytes "0") q))
           (λ q. each_if _ (same s (bytes "1")) (is true) (bad 2) (λ p. each_is _ true (same_eq s (bytes "1") p)) (λ p. each_bad _ 2));
     }
@@ -126,9 +126,9 @@ pub kind_law : Law (λ (k : Kind). Unit) 7 kind kind_of
 unfolding kind kind_of same
 kind_law =
     record {
-      back = λ k h. elim k [ Secrecy ↦ refl | Prot ↦ refl ];
-      plain = λ k h. elim k [ Secrecy ↦ refl | Prot ↦ refl ];
-      short = λ k h. elim k [ Secrecy ↦ omega arith | Prot ↦ omega arith ];
+      back = λ k h. elim k as (λ x. kind (kind_of x) ≡ is x) [ Secrecy ↦ refl | Prot ↦ refl ];
+      plain = λ k h. elim k as (λ x. free 10 (kind_of x) ≡ true) [ Secrecy ↦ refl | Prot ↦ refl ];
+      short = λ k h. elim k as (λ x. length (kind_of x) ≤ 7) [ Secrecy ↦ omega arith | Prot ↦ omega arith ];
       only = λ s. each_if (λ k. s ≡ kind_of k) (same s (bytes "secrecy")) (is Secrecy) _ (λ q. each_is _ Secrecy (same_eq s (bytes "secrecy") q))
           (λ q. each_if _ (same s (bytes "prot")) (is Prot) (bad 2) (λ p. each_is _ Prot (same_eq s (bytes "prot") p)) (λ p. each_bad _ 2));
     }

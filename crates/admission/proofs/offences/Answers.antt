@@ -1,0 +1,7 @@
+-- The masks of the three rows together.
+use Rattle.admission.proofs.Refusals.{offences_gathered}
+use borrow.Author.Rules.{rules}
+use Rattle.admission.proofs.offences.Goals as goal
+
+pub returns : goal.returns
+returns c = search offences_gathered

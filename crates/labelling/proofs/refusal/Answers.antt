@@ -1,0 +1,16 @@
+-- The refusals in document order, each by its law.
+use borrow.Author.Rules.{rules}
+use Rattle.labelling.proofs.Labels.{refused_27, refused_28, refused_29, refused_none}
+use Rattle.labelling.proofs.refusal.Goals as goal
+
+pub returns-then-m-i : goal.returns-then-m-i
+returns-then-m-i c = search refused_27
+
+pub returns-then-not-risk : goal.returns-then-not-risk
+returns-then-not-risk c = search refused_28
+
+pub returns-then-not-contains_u32 : goal.returns-then-not-contains_u32
+returns-then-not-contains_u32 c = search refused_29
+
+pub returns : goal.returns
+returns c = search refused_none

@@ -1,0 +1,16 @@
+-- The loop has joined the masks below word k; how many are left falls.
+use Prim.Native.Nat.{◌-◌}
+use native.Mathlib.Omega.{arith}
+use borrow.Author.Rules.{rules}
+use Rattle.planrow.specs.Row.{risk_word}
+use Rattle.planfit.proofs.Fitting.{Joined, joined_none, joined_more, joined_all}
+use Rattle.planfit.proofs.are_masks.Goals as goal
+
+pub loop-k-init : goal.loop-k-init
+loop-k-init c = search joined_none
+
+pub loop-k-preserved : goal.loop-k-preserved
+loop-k-preserved c = search joined_more
+
+pub returns : goal.returns
+returns c = joined_all _ _ _ _ c.loop-k.invariant _ (omega arith) c.is_mask.ensures

@@ -1,0 +1,22 @@
+-- So far the identifiers below t are found.
+use Prim.Native.Nat.{◌-◌}
+use native.Mathlib.Omega.{arith}
+use Rattle.prot.specs.Lent.{parted}
+use Rattle.prot.proofs.Prot.{FoundSoFar, found_none, found_more, found_end}
+use borrow.Author.Rules.{rules}
+use Rattle.prot.proofs.find_parted.Goals as goal
+
+pub loop-t-init : goal.loop-t-init
+loop-t-init c = search found_none
+
+pub overflow_add-t : goal.overflow_add-t
+overflow_add-t c = omega arith
+
+pub loop-t-smaller : goal.loop-t-smaller
+loop-t-smaller c = omega arith
+
+pub loop-t-preserved : goal.loop-t-preserved
+loop-t-preserved c = search found_more
+
+pub returns : goal.returns
+returns c = search found_end

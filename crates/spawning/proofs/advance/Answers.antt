@@ -1,0 +1,9 @@
+-- The parent's tags are copied before it goes; each child then comes or not.
+use Rattle.std.proofs.Common.{rules}
+use Rattle.spawning.proofs.Moves.{advanced}
+use Rattle.spawning.proofs.advance.Goals as goal
+
+pub returns : goal.returns
+returns c = advanced _ _ _ _ _ _ c.args.serials.now c.args.templates.now c.args.labels.now c.args.tags.now _ _ _ _ _ _ _ _ _ _
+    c.row-start.ensures c.copy_row-row.ensures c.leave.ensures c.enter.ensures
+    c.wrapping_add_u32-at.ensures c.wrapping_add_u32-serial.ensures c.enter-2.ensures
