@@ -5,5 +5,5 @@ use Rattle.spawning.proofs.leave.Goals as goal
 
 pub returns : goal.returns
 returns c = λ h l few. left_processes _ _ _ _ _ c.args.serials.now c.args.templates.now c.args.labels.now c.args.tags.now _ _ _ _ h l few
-    (search rules) (search rules) (search rules) c.shift-arg-4-1.given.0.1 c.row_start-from.ensures c.row_start-to.ensures
+    (search rules) (search rules) (search rules) (search rules) c.row_start-from.ensures c.row_start-to.ensures
     c.shift.ensures c.shift-2.ensures c.shift-3.ensures c.shift-4.ensures

@@ -1,0 +1,19 @@
+use borrow.Author.Rules.{rules}
+use Prim.Native.Nat.{◌+◌, ◌-◌, ◌≤◌}
+use mathlib.Core.Path.{◌≡◌}
+use mathlib.Core.Bool.{not, ◌&&◌, ◌||◌}
+use native.Mathlib.Omega.{arith}
+use lib.Dec.{eqb}
+use lib.ListN.{length, get_or}
+use Rattle.mask.specs.Mask.{has}
+use Rattle.lists.specs.Numbers.{every}
+use Rattle.lists.proofs.Every.{every_start, every_told}
+use Rattle.delivery.proofs.Sends.{parts_there, passed_short, passed_parts}
+use Rattle.std.proofs.Common.{ap}
+use Rattle.delivery.proofs.is_passed.Given as goal
+
+abbrev pub invariant-loop-i : goal.invariant-loop-i
+invariant-loop-i l = (l.i ≤ l.m) × (l.from + l.m ≤ length l.sent) × (l.to + l.m ≤ length l.held) × (l.agreed ≡ every l.i (λ k. not (has k l.label) || (has k l.receiver && eqb (get_or l.sent (l.from + k) 0) (get_or l.held (l.to + k) 0))))
+
+abbrev pub decreases-loop-i : goal.decreases-loop-i
+decreases-loop-i l = l.m - l.i

@@ -1,0 +1,10 @@
+-- The labels are those of the template at 0.
+use mathlib.Core.Path.{ap}
+use lib.ListN.{replicate}
+use borrow.Author.Rules.{rules}
+use Rattle.plan.specs.declared.Template.{Template}
+use Rattle.machine.specs.State.{root_state}
+use Rattle.starting.proofs.root_state.Goals as goal
+
+pub returns : goal.returns
+returns c = ap (λ (t : Template). record { plan = c.args.plan; next = 1; live = 1; serials = replicate 128 0; templates = replicate 128 0; labels = replicate 128 t.lab; tags = replicate 4096 0 }) c.template_at-root.ensures

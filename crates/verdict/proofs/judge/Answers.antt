@@ -1,0 +1,13 @@
+-- A plan that reads is in range.
+use Rattle.verdict.proofs.Ways.{plan_range, plan_complete, plan_refused}
+use borrow.Author.Rules.{rules}
+use Rattle.verdict.proofs.judge.Goals as goal
+
+pub judge_over-requires : goal.judge_over-requires
+judge_over-requires c = search plan_range
+
+pub returns-in-Complete : goal.returns-in-Complete
+returns-in-Complete c = search plan_complete
+
+pub returns-in-Refused : goal.returns-in-Refused
+returns-in-Refused c = search plan_refused
