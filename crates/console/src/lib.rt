@@ -1,8 +1,10 @@
 // What the programs share: a file read into a buffer, and lines of a key and a value.
 #![tactic(auto)]
 
-ghost use Rattle.std.specs.Prelude.{◌≡◌, ◌<◌, length, OnOk};
+ghost use Rattle.std.specs.Prelude.{◌≡◌, ◌<◌, [], ◌∷◌, ◌++◌, length, OnOk};
+ghost use Rattle.std.specs.Fmt.{decimal};
 ghost use Rattle.std.specs.Io.{ReadsAtMost};
+ghost use Rattle.console.specs.Hexadecimal.{hex_digit_of, hex_byte_of, hex_word_of};
 ghost use Rattle.std.specs.Io.KnownBytes.{Appends};
 
 use std::fs::File;
@@ -52,22 +54,29 @@ pub fn print<W: Write>(out: &mut W, bytes: &[u8]) -> io::Result<()>
 }
 
 // A line of a key, with its equals sign, and a number.
-pub fn print_figure<W: Write>(out: &mut W, key: &[u8], figure: u64) -> io::Result<()> {
+pub fn print_figure<W: Write>(out: &mut W, key: &[u8], figure: u64) -> io::Result<()>
+    ensures { OnOk result (Appends (W.contents out.old) (W.contents out.new) (key.now ++ decimal figure ++ 10 ∷ [])) }
+{
     print(out, key)?;
     writeln!(out, "{figure}")
 }
 
-pub fn print_number<W: Write>(out: &mut W, n: u64) -> io::Result<()> {
+pub fn print_number<W: Write>(out: &mut W, n: u64) -> io::Result<()>
+    ensures { OnOk result (Appends (W.contents out.old) (W.contents out.new) (decimal n)) }
+{
     write!(out, "{n}")
 }
 
-pub fn print_word<W: Write>(out: &mut W, n: u32) -> io::Result<()> {
+pub fn print_word<W: Write>(out: &mut W, n: u32) -> io::Result<()>
+    ensures { OnOk result (Appends (W.contents out.old) (W.contents out.new) (decimal n)) }
+{
     write!(out, "{n}")
 }
 
 // A digit of base 16.
 fn hex_digit(d: u8) -> u8
     requires { d < 16 }
+    ensures { result ≡ hex_digit_of d }
 {
     if d < 10 {
         return d + 48;
@@ -76,12 +85,19 @@ fn hex_digit(d: u8) -> u8
 }
 
 // Two digits of base 16.
-pub fn print_hex_byte<W: Write>(out: &mut W, b: u8) -> io::Result<()> {
+pub fn print_hex_byte<W: Write>(out: &mut W, b: u8) -> io::Result<()>
+    ensures { OnOk result (Appends (W.contents out.old) (W.contents out.new) (hex_byte_of b)) }
+{
     let digits: [u8; 2] = [hex_digit(b / 16), hex_digit(b % 16)];
     print(out, &digits)
 }
 
 // Eight digits of base 16.
-pub fn print_hex_word<W: Write>(out: &mut W, n: u32) -> io::Result<()> {
-    write!(out, "{n:08x}")
+pub fn print_hex_word<W: Write>(out: &mut W, n: u32) -> io::Result<()>
+    ensures { OnOk result (Appends (W.contents out.old) (W.contents out.new) (hex_word_of n)) }
+{
+    print_hex_byte(out, (n / 16777216) as u8)?;
+    print_hex_byte(out, (n / 65536 % 256) as u8)?;
+    print_hex_byte(out, (n / 256 % 256) as u8)?;
+    print_hex_byte(out, (n % 256) as u8)
 }
