@@ -11,7 +11,7 @@ pub loop-i-init : goal.loop-i-init
 loop-i-init c = stands_none _ _ _ _ _
 
 pub loop-i-preserved : goal.loop-i-preserved
-loop-i-preserved c = stands_on _ _ _ _ _ _ _ _ _ _ _ _ _ c.loop-i.invariant (search rules) (search rules) c.run_call-r.ensures c.code_of_lem.ensures
+loop-i-preserved c = stands_on _ _ _ _ _ _ _ _ _ _ _ _ _ c.loop-i.invariant (search rules) (search rules) c.run_call-r.ensures c.code_of.ensures
 
 pub returns : goal.returns
 returns c = search played
