@@ -1,4 +1,4 @@
-// Links libembed.a, which `rt staticlib embed` writes to target/staticlib of this repository; MONITOR_LIB names another
+// Links libembed.a, which `tools/build staticlib embed` writes to target/staticlib of this repository; MONITOR_LIB names another
 // folder that holds it.
 use std::env;
 use std::path::PathBuf;

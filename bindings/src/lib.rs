@@ -1,4 +1,4 @@
-//! The proved label monitor and plan judge, over the static library that `rt staticlib embed` writes.
+//! The proved label monitor and plan judge, over the static library that `tools/build staticlib embed` writes.
 //!
 //! [`judge`], [`locate`] and [`show`] work on the two texts; [`Monitor::start`] gives a box, on which [`Monitor::step`],
 //! [`Monitor::send`], [`Monitor::raise`] and [`Monitor::lower`] are the calls. No value makes a call go wrong: each is

@@ -33,13 +33,11 @@ fn read_number(s: &[u8]) -> Number {
         }
     }
     let mut value: u32 = 0;
-    let mut i = 0;
-    while i < s.len() {
-        let Number::Is(next) = with_digit(value, s[i]) else {
+    for b in s {
+        let Number::Is(next) = with_digit(value, *b) else {
             return Number::Bad;
         };
         value = next;
-        i += 1;
     }
     Number::Is(value)
 }

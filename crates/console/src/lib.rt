@@ -1,46 +1,82 @@
 // What the programs share: a file read into a buffer, and lines of a key and a value.
 #![tactic(auto)]
 
-ghost use Rattle.std.specs.Prelude.{◌<◌};
-ghost use Rattle.io.specs.Counts.{IsPrefixLen};
+ghost use Rattle.std.specs.Prelude.{◌≡◌, ◌<◌, [], ◌∷◌, ◌++◌, length, OnOk};
+ghost use Rattle.std.specs.Fmt.{decimal};
+ghost use Rattle.std.specs.Io.{ReadsAtMost};
+ghost use Rattle.console.specs.Hexadecimal.{hex_digit_of, hex_byte_of, hex_word_of};
+ghost use Rattle.std.specs.Io.KnownBytes.{Appends};
 
-use libc::STDOUT_FILENO;
+use std::fs::File;
+use std::io::{Read, Write};
+use std::rt::Files;
+use std::{io, str};
 
-// How many bytes of the file are now in the buffer; a missing file counts as empty.
-pub fn read_file(path: &[u8], buffer: &mut [u8]) -> usize
-    ensures { IsPrefixLen result buffer.new }
+// Room for a text, and for more bytes than a text may have, so that one that is too long is seen to be.
+pub fn large_buffer() -> [u8; 65536]
+    ensures { 65536 ≡ length result }
 {
-    let file = os::open_read(path);
-    if file < 0 {
-        return 0;
-    }
-    let count = io::read_full(file, buffer);
-    libc::close(file);
-    count
+    [0; 65536]
 }
 
-pub fn print(bytes: &[u8]) {
-    io::write_all(STDOUT_FILENO, bytes);
+// Reads until the buffer is full or the input ends, and answers how many bytes stand at the buffer's start.
+pub fn read_full(input: &mut impl Read, buffer: &mut [u8]) -> io::Result<usize>
+    ensures { ReadsAtMost result buffer.new }
+{
+    let mut done = 0;
+    while done < buffer.len() {
+        let n = input.read(&mut buffer[done..])?;
+        if n == 0 {
+            break;
+        }
+        done += n;
+    }
+    Ok(done)
+}
+
+// How many bytes of the file are now in the buffer; a missing file counts as empty, and so does any other that cannot be opened.
+pub fn read_file(rt: &impl Files, path: &[u8], buffer: &mut [u8]) -> io::Result<usize>
+    ensures { ReadsAtMost result buffer.new }
+{
+    let Ok(name) = str::from_utf8(path) else {
+        return Ok(0);
+    };
+    let Ok(mut file) = File::open(rt, name) else {
+        return Ok(0);
+    };
+    read_full(&mut file, buffer)
+}
+
+pub fn print<W: Write>(out: &mut W, bytes: &[u8]) -> io::Result<()>
+    ensures { OnOk result (Appends (W.contents out.old) (W.contents out.new) bytes.now) }
+{
+    out.write_all(bytes)
 }
 
 // A line of a key, with its equals sign, and a number.
-pub fn print_figure(key: &[u8], figure: u64) {
-    io::write_all(STDOUT_FILENO, key);
-    io::print_decimal(STDOUT_FILENO, figure);
-    io::write_all(STDOUT_FILENO, b"\n");
+pub fn print_figure<W: Write>(out: &mut W, key: &[u8], figure: u64) -> io::Result<()>
+    ensures { OnOk result (Appends (W.contents out.old) (W.contents out.new) (key.now ++ decimal figure ++ 10 ∷ [])) }
+{
+    print(out, key)?;
+    writeln!(out, "{figure}")
 }
 
-pub fn print_number(n: u64) {
-    io::print_decimal(STDOUT_FILENO, n);
+pub fn print_number<W: Write>(out: &mut W, n: u64) -> io::Result<()>
+    ensures { OnOk result (Appends (W.contents out.old) (W.contents out.new) (decimal n)) }
+{
+    write!(out, "{n}")
 }
 
-pub fn print_word(n: u32) {
-    io::print_decimal(STDOUT_FILENO, n as u64);
+pub fn print_word<W: Write>(out: &mut W, n: u32) -> io::Result<()>
+    ensures { OnOk result (Appends (W.contents out.old) (W.contents out.new) (decimal n)) }
+{
+    write!(out, "{n}")
 }
 
 // A digit of base 16.
 fn hex_digit(d: u8) -> u8
     requires { d < 16 }
+    ensures { result ≡ hex_digit_of d }
 {
     if d < 10 {
         return d + 48;
@@ -49,12 +85,19 @@ fn hex_digit(d: u8) -> u8
 }
 
 // Two digits of base 16.
-pub fn print_hex_byte(b: u8) {
+pub fn print_hex_byte<W: Write>(out: &mut W, b: u8) -> io::Result<()>
+    ensures { OnOk result (Appends (W.contents out.old) (W.contents out.new) (hex_byte_of b)) }
+{
     let digits: [u8; 2] = [hex_digit(b / 16), hex_digit(b % 16)];
-    io::write_all(STDOUT_FILENO, &digits);
+    print(out, &digits)
 }
 
 // Eight digits of base 16.
-pub fn print_hex_word(n: u32) {
-    io::print_hex(STDOUT_FILENO, n as u64, 8);
+pub fn print_hex_word<W: Write>(out: &mut W, n: u32) -> io::Result<()>
+    ensures { OnOk result (Appends (W.contents out.old) (W.contents out.new) (hex_word_of n)) }
+{
+    print_hex_byte(out, (n / 16777216) as u8)?;
+    print_hex_byte(out, (n / 65536 % 256) as u8)?;
+    print_hex_byte(out, (n / 256 % 256) as u8)?;
+    print_hex_byte(out, (n % 256) as u8)
 }

@@ -2,7 +2,10 @@
 // it has calls, the next serial), then the texts.
 #![tactic(auto)]
 
-ghost use Rattle.std.specs.Prelude.{◌<◌, ◌≤◌, length};
+ghost use Rattle.std.specs.Prelude.{◌<◌, ◌≤◌, length, IfOk};
+
+use std::io;
+use std::io::Read;
 
 // The value of a hexadecimal digit; any other byte counts as 0.
 fn nibble(b: u8) -> usize
@@ -40,13 +43,13 @@ fn number_at(header: &[u8], at: usize) -> usize
 }
 
 // How many bytes of the next text of that length are now in the buffer: fewer where the file ends.
-fn read_text(file: i32, buffer: &mut [u8], size: usize) -> usize
-    ensures { result ≤ length buffer.new }
+fn read_text(file: &mut impl Read, buffer: &mut [u8], size: usize) -> io::Result<usize>
+    ensures { IfOk result (λ n. n ≤ length buffer.new) }
 {
     if buffer.len() < size {
-        return 0;
+        return Ok(0);
     }
-    io::read_full(file, &mut buffer[0..size])
+    console::read_full(file, &mut buffer[0..size])
 }
 
 // How many bytes of a case's two texts are now in the buffers; found is false where there is no case left.
@@ -58,24 +61,24 @@ pub struct Pair {
 }
 
 // The next case of two texts.
-pub fn read_pair(file: i32, plan: &mut [u8], policy: &mut [u8]) -> Pair
-    ensures { (result.plan ≤ length plan.new) × (result.policy ≤ length policy.new) }
+pub fn read_pair(file: &mut impl Read, plan: &mut [u8], policy: &mut [u8]) -> io::Result<Pair>
+    ensures { IfOk result (λ pair. (pair.plan ≤ length plan.new) × (pair.policy ≤ length policy.new)) }
 {
     let mut header: [u8; 8] = [0; 8];
-    if read_text(file, &mut header, 8) < 8 {
-        return Pair {
+    if read_text(file, &mut header, 8)? < 8 {
+        return Ok(Pair {
             found: false,
             plan: 0,
             policy: 0,
-        };
+        });
     }
-    let n = read_text(file, plan, number_at(&header, 0));
-    let m = read_text(file, policy, number_at(&header, 4));
-    Pair {
+    let n = read_text(file, plan, number_at(&header, 0))?;
+    let m = read_text(file, policy, number_at(&header, 4))?;
+    Ok(Pair {
         found: true,
         plan: n,
         policy: m,
-    }
+    })
 }
 
 // How many bytes of a case's two texts and of its calls are now in the buffers, and the next serial that its box starts
@@ -91,29 +94,34 @@ pub struct Run {
 
 // The next case of two texts and a list of calls. The calls' length has six digits, of which the first two are 0; the
 // next serial has eight.
-pub fn read_run(file: i32, plan: &mut [u8], policy: &mut [u8], calls: &mut [u8]) -> Run
-    ensures { (result.plan ≤ length plan.new) × (result.policy ≤ length policy.new) × (result.calls ≤ length calls.new) }
+pub fn read_run(
+    file: &mut impl Read,
+    plan: &mut [u8],
+    policy: &mut [u8],
+    calls: &mut [u8],
+) -> io::Result<Run>
+    ensures { IfOk result (λ run. (run.plan ≤ length plan.new) × (run.policy ≤ length policy.new) × (run.calls ≤ length calls.new)) }
 {
     let mut header: [u8; 22] = [0; 22];
-    if read_text(file, &mut header, 22) < 22 {
-        return Run {
+    if read_text(file, &mut header, 22)? < 22 {
+        return Ok(Run {
             found: false,
             plan: 0,
             policy: 0,
             calls: 0,
             next: 0,
-        };
+        });
     }
-    let n = read_text(file, plan, number_at(&header, 0));
-    let m = read_text(file, policy, number_at(&header, 4));
-    let c = read_text(file, calls, number_at(&header, 10));
+    let n = read_text(file, plan, number_at(&header, 0))?;
+    let m = read_text(file, policy, number_at(&header, 4))?;
+    let c = read_text(file, calls, number_at(&header, 10))?;
     let high = number_at(&header, 14) as u32;
     let low = number_at(&header, 18) as u32;
-    Run {
+    Ok(Run {
         found: true,
         plan: n,
         policy: m,
         calls: c,
         next: high * 65536 + low,
-    }
+    })
 }

@@ -1,6 +1,8 @@
 // judge: prints the verdict on plan.txt and policy.txt.
 #![tactic(auto)]
 
-fn main() {
-    judging::judge_files(b"plan.txt", b"policy.txt");
+use std::io;
+
+fn main(rt: HostRuntime) -> io::Result<()> {
+    judging::judge_files(&rt, b"plan.txt", b"policy.txt")
 }

@@ -2,10 +2,12 @@
 // case c.
 #![tactic(auto)]
 
-fn main() {
-    judging::judge_files(b"base.plan.txt", b"base.policy.txt");
-    judging::judge_files(b"unread.plan.txt", b"base.policy.txt");
-    judging::judge_files(b"base.plan.txt", b"unread.policy.txt");
-    judging::judge_files(b"none.plan.txt", b"none.policy.txt");
-    judging::judge_files(b"c.plan.txt", b"base.policy.txt");
+use std::io;
+
+fn main(rt: HostRuntime) -> io::Result<()> {
+    judging::judge_files(&rt, b"base.plan.txt", b"base.policy.txt")?;
+    judging::judge_files(&rt, b"unread.plan.txt", b"base.policy.txt")?;
+    judging::judge_files(&rt, b"base.plan.txt", b"unread.policy.txt")?;
+    judging::judge_files(&rt, b"none.plan.txt", b"none.policy.txt")?;
+    judging::judge_files(&rt, b"c.plan.txt", b"base.policy.txt")
 }

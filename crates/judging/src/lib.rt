@@ -5,6 +5,8 @@ ghost use Rattle.std.specs.Prelude.{◌≡◌, ◌++◌, ◌≤◌, length, drop
 ghost use Rattle.rules.specs.Judge.{judge, printed};
 
 use report::ROOM;
+use std::io;
+use std::rt::Files;
 
 // How many bytes judge prints of two texts; they stand at the buffer's start.
 pub fn judge_texts<'a>(plan: &'a [u8], policy: &'a [u8], out: &'a mut [u8; ROOM]) -> usize
@@ -15,12 +17,16 @@ pub fn judge_texts<'a>(plan: &'a [u8], policy: &'a [u8], out: &'a mut [u8; ROOM]
 }
 
 // A buffer for a file has more room than a text may have bytes, so a file that is too long is seen to be.
-pub fn judge_files(plan_name: &[u8], policy_name: &[u8]) {
-    let mut plan = io::large_buffer();
-    let n = console::read_file(plan_name, &mut plan);
-    let mut policy = io::large_buffer();
-    let m = console::read_file(policy_name, &mut policy);
+pub fn judge_files(
+    rt: &(impl Files + Print),
+    plan_name: &[u8],
+    policy_name: &[u8],
+) -> io::Result<()> {
+    let mut plan = console::large_buffer();
+    let n = console::read_file(rt, plan_name, &mut plan)?;
+    let mut policy = console::large_buffer();
+    let m = console::read_file(rt, policy_name, &mut policy)?;
     let mut out = [0u8; ROOM];
     let k = judge_texts(&plan[0..n], &policy[0..m], &mut out);
-    console::print(&out[0..k]);
+    console::print(&mut io::writer(rt), &out[0..k])
 }

@@ -2,7 +2,16 @@
 // refusal 24.
 #![tactic(auto)]
 
-fn print_replay_at<'a>(plan: &'a [u8], policy: &'a [u8], text: &'a [u8], next: u32) {
+use std::io;
+use std::io::Write;
+
+fn print_replay_at<'a, W: Write>(
+    out: &mut W,
+    plan: &'a [u8],
+    policy: &'a [u8],
+    text: &'a [u8],
+    next: u32,
+) -> io::Result<()> {
     let mut words = script::word_room();
     let script = script::read_calls(text, &mut words);
     let n = script.count;
@@ -14,14 +23,20 @@ fn print_replay_at<'a>(plan: &'a [u8], policy: &'a [u8], text: &'a [u8], next: u
     state.next = next;
     let r = replaying::play(state, &words[0..n], &mut answers);
     let after = r.state;
-    runreport::print_verdict_or_run(verdict, &answers, r.count, after, script.fault, line);
+    runreport::print_verdict_or_run(out, verdict, &answers, r.count, after, script.fault, line)
 }
 
 // What replay prints, from that next serial on.
-pub fn print_replay_from<'a>(plan: &'a [u8], policy: &'a [u8], calls: &'a [u8], next: u32) {
+pub fn print_replay_from<'a, W: Write>(
+    out: &mut W,
+    plan: &'a [u8],
+    policy: &'a [u8],
+    calls: &'a [u8],
+    next: u32,
+) -> io::Result<()> {
     if next == 1 {
-        transcript::print_replay(plan, policy, calls);
+        transcript::print_replay(out, plan, policy, calls)
     } else {
-        print_replay_at(plan, policy, calls, next);
+        print_replay_at(out, plan, policy, calls, next)
     }
 }

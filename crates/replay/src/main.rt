@@ -2,12 +2,19 @@
 // have bytes, so a file that is too long is seen to be.
 #![tactic(auto)]
 
-fn main() {
-    let mut plan = io::large_buffer();
-    let n = console::read_file(b"plan.txt", &mut plan);
-    let mut policy = io::large_buffer();
-    let m = console::read_file(b"policy.txt", &mut policy);
+use std::io;
+
+fn main(rt: HostRuntime) -> io::Result<()> {
+    let mut plan = console::large_buffer();
+    let n = console::read_file(&rt, b"plan.txt", &mut plan)?;
+    let mut policy = console::large_buffer();
+    let m = console::read_file(&rt, b"policy.txt", &mut policy)?;
     let mut text = script::text_room();
-    let t = console::read_file(b"calls.txt", &mut text);
-    transcript::print_replay(&plan[0..n], &policy[0..m], &text[0..t]);
+    let t = console::read_file(&rt, b"calls.txt", &mut text)?;
+    transcript::print_replay(
+        &mut io::writer(&rt),
+        &plan[0..n],
+        &policy[0..m],
+        &text[0..t],
+    )
 }

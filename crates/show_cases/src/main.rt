@@ -1,32 +1,38 @@
 // Shows the part that the verdict points at, for stored pairs of texts, each on its own line.
 #![tactic(auto)]
 
-fn print_case<'a>(plan: &'a [u8], policy: &'a [u8]) {
-    console::print(showing::show(plan, policy));
-    console::print(b"\n");
+use std::fs::File;
+use std::io;
+use std::io::{Read, Write};
+
+fn print_case<'a, W: Write>(out: &mut W, plan: &'a [u8], policy: &'a [u8]) -> io::Result<()> {
+    console::print(out, showing::show(plan, policy))?;
+    console::print(out, b"\n")
 }
 
 // One case of the file; false where there is none left.
-fn one_case(file: i32) -> bool {
-    let mut plan = io::large_buffer();
-    let mut policy = io::large_buffer();
-    let read = corpus::read_pair(file, &mut plan, &mut policy);
+fn one_case<W: Write>(file: &mut impl Read, out: &mut W) -> io::Result<bool> {
+    let mut plan = console::large_buffer();
+    let mut policy = console::large_buffer();
+    let read = corpus::read_pair(file, &mut plan, &mut policy)?;
     if !read.found {
-        return false;
+        return Ok(false);
     }
     let n = read.plan;
     let m = read.policy;
-    print_case(&plan[0..n], &policy[0..m]);
-    true
+    print_case(out, &plan[0..n], &policy[0..m])?;
+    Ok(true)
 }
 
-fn main() {
-    let file = os::open_read(b"cases");
-    let mut left: u32 = 100000;
-    while 0 < left {
-        if !one_case(file) {
-            return;
+fn main(rt: HostRuntime) -> io::Result<()> {
+    let Ok(mut file) = File::open(&rt, "cases") else {
+        return Ok(());
+    };
+    let mut out = io::writer(&rt);
+    for _ in 0..100000u32 {
+        if !one_case(&mut file, &mut out)? {
+            break;
         }
-        left -= 1;
     }
+    Ok(())
 }

@@ -5,6 +5,9 @@
 
 ghost use Rattle.std.specs.Prelude.{◌≡◌, length};
 
+use std::io;
+use std::io::Write;
+
 // As many as the longest text of calls can have.
 pub fn answer_room() -> [u8; 8192]
     ensures { 8192 ≡ length result }
@@ -12,7 +15,12 @@ pub fn answer_room() -> [u8; 8192]
     [0; 8192]
 }
 
-pub fn print_replay<'a>(plan: &'a [u8], policy: &'a [u8], text: &'a [u8]) {
+pub fn print_replay<'a, W: Write>(
+    out: &mut W,
+    plan: &'a [u8],
+    policy: &'a [u8],
+    text: &'a [u8],
+) -> io::Result<()> {
     let mut words = script::word_room();
     let script = script::read_calls(text, &mut words);
     let n = script.count;
@@ -21,5 +29,5 @@ pub fn print_replay<'a>(plan: &'a [u8], policy: &'a [u8], text: &'a [u8]) {
     let r = replaying::replay(plan, policy, &words[0..n], &mut answers);
     let verdict = r.verdict;
     let state = r.state;
-    runreport::print_verdict_or_run(verdict, &answers, r.count, state, script.fault, line);
+    runreport::print_verdict_or_run(out, verdict, &answers, r.count, state, script.fault, line)
 }
