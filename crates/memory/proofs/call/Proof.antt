@@ -20,7 +20,7 @@ cast-result : tie.Need-overflow-cast-result
 cast-result c = search rules
 
 returns : tie.Need-returns
-returns c = answered _ _ _ _ _ _ _ _ c.code_of_lem.ensures c.before.before.run_call.ensures
+returns c = answered _ _ _ _ _ _ _ _ c.code_of.ensures c.before.before.run_call.ensures
 
 pub call-spec : {M : Type 1} → statement M
 call-spec =

@@ -1,0 +1,8 @@
+-- The call whose kind it is.
+use borrow.Author.Rules.{rules}
+use Rattle.machine.specs.State.{call_of}
+use Rattle.monitor.proofs.lower.Goals as goal
+
+pub returns : goal.returns
+unfolding call_of
+returns c = c.call.ensures

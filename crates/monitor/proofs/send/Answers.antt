@@ -1,0 +1,9 @@
+-- The call whose kind it is; no send is done.
+use borrow.Author.Rules.{rules}
+use Rattle.machine.specs.State.{call_of}
+use Rattle.monitor.proofs.Kept.{sent_kept}
+use Rattle.monitor.proofs.send.Goals as goal
+
+pub returns : goal.returns
+unfolding call_of
+returns c = (c.call.ensures.0, sent_kept _ _ _ _ c.call.ensures.0 c.call.ensures.1)
