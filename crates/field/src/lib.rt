@@ -4,7 +4,7 @@
 
 ghost use Rattle.std.specs.Prelude.{◌≡◌, ◌≤◌, ◌^◌, length, ltb};
 ghost use Rattle.lists.specs.Numbers.{all};
-ghost use Rattle.field.specs.Fields.{digit as digitOf, digits, decimal, number, mask as mask_of, name_byte, misplaced, declass as declassOf};
+ghost use Rattle.field.specs.Fields.{digit as digit_of, digits, decimal, number, mask as mask_of, name_byte, misplaced, declass as declass_of};
 ghost use Rattle.field.specs.Answers.{number_of, is_name};
 
 use plan::Kind;
@@ -34,7 +34,7 @@ pub enum NumberField {
 
 // The value of a digit, 0-9 and a-f, and 16 for any other byte.
 fn digit(b: u8) -> u64
-    ensures { result ≡ digitOf b }
+    ensures { result ≡ digit_of b }
 {
     if b < b'0' {
         return 16;
@@ -187,7 +187,7 @@ fn is_misplaced(kind: Kind, source: u8, sink: u8, declass: u64) -> bool
 
 // A mask over n templates, of sixteen digits, that the assertion's kind allows.
 pub fn read_declass(s: &[u8], n: u8, kind: Kind, source: u8, sink: u8) -> NumberField
-    ensures { number_of result ≡ declassOf n kind source sink s.now }
+    ensures { number_of result ≡ declass_of n kind source sink s.now }
 {
     match read_mask(s, 16, n) {
         NumberField::Bad(number) => NumberField::Bad(number),

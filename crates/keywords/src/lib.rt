@@ -3,7 +3,7 @@
 #![tactic(auto)]
 
 ghost use Rattle.std.specs.Prelude.{◌≡◌};
-ghost use Rattle.field.specs.Fields.{risk, kind as kindWord};
+ghost use Rattle.field.specs.Fields.{risk, kind as kind_word};
 ghost use Rattle.keywords.specs.Answers.{risk_of, kind_of};
 
 use plan::Kind;
@@ -37,7 +37,7 @@ pub enum KindField {
 
 // `secrecy` or `prot`.
 pub fn read_kind(s: &[u8]) -> KindField
-    ensures { kind_of result ≡ kindWord s.now }
+    ensures { kind_of result ≡ kind_word s.now }
 {
     if scan::same_bytes(s, b"secrecy") {
         return KindField::Is(Kind::Secrecy);

@@ -6,7 +6,7 @@ ghost use Rattle.std.specs.Prelude.{◌≡◌, false, [], get_or};
 ghost use Rattle.plan.specs.declared.Form.TheVariants.{End};
 ghost use Rattle.plan.specs.declared.Kind.TheVariants.{Secrecy};
 ghost use Rattle.scan.specs.Bytes.{bytes, stands_in};
-ghost use Rattle.field.specs.Fields.{name as nameField, form, risk, kind as kindWord};
+ghost use Rattle.field.specs.Fields.{name as name_field, form, risk, kind as kind_word};
 ghost use Rattle.text.specs.Cursors.{part, cursor_of, step_of, keyed};
 ghost use Rattle.lines.specs.Names.{names_of, name_of};
 
@@ -50,7 +50,7 @@ pub enum NameField {
 
 // A name that did not stand earlier: its layout first, then the names at the first places of the two rows.
 fn read_name(text: &[u8], name: &[u8], starts: &[usize], ends: &[usize], count: u8) -> NameField
-    ensures { name_of name.now result ≡ nameField (names_of text.now starts.now ends.now count) name.now }
+    ensures { name_of name.now result ≡ name_field (names_of text.now starts.now ends.now count) name.now }
 {
     if !field::is_name(name) {
         return NameField::Bad(field::LAYOUT);
@@ -77,7 +77,7 @@ pub fn name_line(
     ends: &[usize],
     count: u8,
 ) -> NameLine
-    ensures { step_of text.now (part result.start result.end text.now) result.next ≡ keyed [] (bytes "name=") (nameField (names_of text.now starts.now ends.now count)) (cursor_of text.now from) }
+    ensures { step_of text.now (part result.start result.end text.now) result.next ≡ keyed [] (bytes "name=") (name_field (names_of text.now starts.now ends.now count)) (cursor_of text.now from) }
 {
     match text::open_line(text, from, b"name=") {
         Line::Closed(next) => NameLine {
@@ -167,7 +167,7 @@ pub struct KindLine {
 
 // The `kind=` line.
 pub fn kind_line(text: &[u8], from: Position) -> KindLine
-    ensures { step_of text.now result.value result.next ≡ keyed Secrecy (bytes "kind=") kindWord (cursor_of text.now from) }
+    ensures { step_of text.now result.value result.next ≡ keyed Secrecy (bytes "kind=") kind_word (cursor_of text.now from) }
 {
     match text::open_line(text, from, b"kind=") {
         Line::Closed(next) => KindLine {

@@ -25,8 +25,8 @@ module _ {A : Type 0} where
   get_d_tabulate (suc n) f (suc i) d h = get_d_tabulate n (λ j. f (suc j)) i d (le_of_suc-le-suc h)
 
   -- At its end and past it the default stands.
-  pub getD_tabulate_past : (n : ℕ) (f : ℕ → A) (i : ℕ) (d : A) → n ≤ i → get_or (tabulate n f) i d ≡ d
-  getD_tabulate_past n f i d h = get_or-eq_default (tabulate n f) d (subst (λ (k : ℕ). k ≤ i) (sym (length-tabulate n f)) h)
+  pub get_or-tabulate_past : (n : ℕ) (f : ℕ → A) (i : ℕ) (d : A) → n ≤ i → get_or (tabulate n f) i d ≡ d
+  get_or-tabulate_past n f i d h = get_or-eq_default (tabulate n f) d (subst (λ (k : ℕ). k ≤ i) (sym (length-tabulate n f)) h)
 
   -- Functions that agree below n.
   pub tabulate_ext : (n : ℕ) (f g : ℕ → A) → ((i : ℕ) → i < n → f i ≡ g i) → tabulate n f ≡ tabulate n g
@@ -42,8 +42,8 @@ module _ {A : Type 0} where
   tabulate_snoc (suc n) f = ap (λ (l : List A). f zero ∷ l) (tabulate_snoc n (λ i. f (suc i)))
 
   -- A list is made from its elements.
-  pub tabulate_getD : (n : ℕ) (l : List A) (d : A) → length l ≡ n → tabulate n (λ i. get_or l i d) ≡ l
-  tabulate_getD n l d e =
+  pub tabulate_get_or : (n : ℕ) (l : List A) (d : A) → length l ≡ n → tabulate n (λ i. get_or l i d) ≡ l
+  tabulate_get_or n l d e =
       ext_get_or d (tabulate n (λ i. get_or l i d)) l (length-tabulate n (λ i. get_or l i d) ∙ sym e)
       (λ i h. get_d_tabulate n (λ i. get_or l i d) i d (subst (λ (k : ℕ). i < k) (length-tabulate n (λ i. get_or l i d)) h))
 
@@ -55,7 +55,7 @@ module _ {A : Type 0} where
 
   -- And of any list, by its elements.
   pub all_every : (p : A → Bool) (n : ℕ) (l : List A) (d : A) → length l ≡ n → all p l ≡ every n (λ i. p (get_or l i d))
-  all_every p n l d e = ap (all p) (sym (tabulate_getD n l d e)) ∙ all_tabulate p n (λ i. get_or l i d)
+  all_every p n l d e = ap (all p) (sym (tabulate_get_or n l d e)) ∙ all_tabulate p n (λ i. get_or l i d)
 
 pub map-tabulate : {A B : Type 0} (h : A → B) (n : ℕ) (f : ℕ → A) → map h (tabulate n f) ≡ tabulate n (λ i. h (f i))
 unfolding tabulate

@@ -4,7 +4,7 @@
 
 ghost use Rattle.std.specs.Prelude.{◌≡◌, ◌≤◌, ◌-◌};
 ghost use Rattle.scan.specs.Bytes.{bytes};
-ghost use Rattle.field.specs.Fields.{number, mask as mask_of, declass as declassOf};
+ghost use Rattle.field.specs.Fields.{number, mask as mask_of, declass as declass_of};
 ghost use Rattle.text.specs.Cursors.{cursor_of, step_of, keyed};
 
 use field::NumberField;
@@ -90,7 +90,7 @@ pub fn declass_line(
     source: u8,
     sink: u8,
 ) -> DeclassLine
-    ensures { step_of text.now result.value result.next ≡ keyed 0 (bytes "declass=") (declassOf n kind source sink) (cursor_of text.now from) }
+    ensures { step_of text.now result.value result.next ≡ keyed 0 (bytes "declass=") (declass_of n kind source sink) (cursor_of text.now from) }
 {
     match text::open_line(text, from, b"declass=") {
         Line::Closed(next) => DeclassLine { value: 0, next },

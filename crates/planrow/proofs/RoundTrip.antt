@@ -13,7 +13,7 @@ use borrow.Author.Tests.{lt-ltb, le-ltb, le-leb}
 use Rattle.lists.specs.Numbers.{every}
 use Rattle.lists.proofs.Every.{every_of}
 use Rattle.lists.proofs.Tests.{lt_or_le, and_of}
-use Rattle.lists.proofs.Tabulate.{tabulate_ext, tabulate_getD}
+use Rattle.lists.proofs.Tabulate.{tabulate_ext, tabulate_get_or}
 use Rattle.lists.proofs.Length.{get_or-same}
 use Rattle.plan.specs.declared.Form.{Form}
 use Rattle.plan.specs.declared.Form.TheVariants.{End, Go, Either, Both}
@@ -126,7 +126,7 @@ module _ (plan : Plan) (few : plan.count ≤ 64) where
         record {
           count = row_count plan few i;
           identifiers = row_identifiers plan i;
-          templates = (tabulate_ext 64 _ (at plan) same_place ∙ tabulate_getD 64 plan.templates blank sized) i;
+          templates = (tabulate_ext 64 _ (at plan) same_place ∙ tabulate_get_or 64 plan.templates blank sized) i;
         }
 
 -- A plan of more templates has no row.

@@ -6,7 +6,7 @@ use mathlib.Core.Bool.{true, false}
 use native.Mathlib.Omega.{arith}
 use lib.ListN.{length, get_or, replicate}
 use Rattle.lists.specs.Numbers.{tabulate}
-use Rattle.lists.proofs.Tabulate.{tabulate_getD}
+use Rattle.lists.proofs.Tabulate.{tabulate_get_or}
 use Rattle.numerals.specs.Numerals.{decimal_of}
 use Rattle.plan.specs.declared.Plan.{Plan}
 use Rattle.plan.specs.Plan.{blank, at}
@@ -83,7 +83,7 @@ module _ (p : Plan) (ns : List (List ℕ)) (h : Printable p ns) where
   unfolding plan_names print_plan
   names_read =
       let x = rows 3 in
-      simp append_assoc (rw (templates_line.back, identifiers_line.back, x.2) (tabulate_getD p.count ns [] h.one_each))
+      simp append_assoc (rw (templates_line.back, identifiers_line.back, x.2) (tabulate_get_or p.count ns [] h.one_each))
 
   names_back : plan_names (print_plan p ns) ≡ ns
   names_back = ap plan_names (sym (append-nil (print_plan p ns))) ∙ names_read

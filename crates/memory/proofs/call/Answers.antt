@@ -1,0 +1,7 @@
+-- What the call on the lent row and arrays did, its place stored.
+use borrow.Author.Rules.{rules}
+use Rattle.memory.proofs.Answered.{answered}
+use Rattle.memory.proofs.call.Goals as goal
+
+pub returns : goal.returns
+returns c = answered _ _ _ _ _ _ _ _ c.code_of.ensures c.run_call-r.ensures
