@@ -1,0 +1,6 @@
+-- The call on the lent memory, as it is.
+use borrow.Author.Rules.{rules}
+use Rattle.embed.proofs.monitor_call.Goals as goal
+
+pub returns : goal.returns
+returns c = c.call.ensures

@@ -1,0 +1,8 @@
+-- The words of the verdict that the judge gave.
+use mathlib.Core.Path.{ap, ◌∙◌}
+use Rattle.rules.specs.Judge.{numbers_of}
+use borrow.Author.Rules.{rules}
+use Rattle.embed.proofs.monitor_judge.Goals as goal
+
+pub returns : goal.returns
+returns c = c.verdict_words.ensures ∙ ap numbers_of c.judge-verdict.ensures

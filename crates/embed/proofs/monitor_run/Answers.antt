@@ -1,0 +1,6 @@
+-- The run on the lent memory.
+use borrow.Author.Rules.{rules}
+use Rattle.embed.proofs.monitor_run.Goals as goal
+
+pub returns : goal.returns
+returns c = c.run.ensures
