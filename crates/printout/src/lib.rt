@@ -1,76 +1,173 @@
 // Answers and a state as lines, as the program replay prints them.
 #![tactic(auto)]
 
+ghost use Rattle.std.specs.Prelude.{◌+◌, ◌*◌, ◌<◌, ◌≤◌, [], ◌∷◌, ◌++◌, length, take, slice_range, OnOk, codes};
+ghost use Rattle.std.specs.List.{flat_map};
+ghost use Rattle.std.specs.Fmt.{decimal};
+ghost use Rattle.std.specs.Io.KnownBytes.{Appends};
+ghost use Rattle.printout.specs.Lines.{answer_line, answer_lines, tag_list, names_of, process_line, process_line_at, process_lines, counts_line, state_lines};
+
 use machine::State;
 use std::io;
 use std::io::Write;
 
-fn print_answer<W: Write>(out: &mut W, code: u8) -> io::Result<()> {
-    match code {
-        0 => console::print(out, b"done\n"),
-        1 => console::print(out, b"delivered\n"),
-        2 => console::print(out, b"held\n"),
-        n => {
-            console::print(out, b"refused ")?;
-            console::print_number(out, n as u64)?;
-            console::print(out, b"\n")
-        }
-    }
+fn print_refused<W: Write>(out: &mut W, code: u8) -> io::Result<()>
+    ensures { OnOk result (Appends (W.contents out.old) (W.contents out.new) (codes "refused " ++ decimal code ++ 10 ∷ [])) }
+{
+    console::print(out, b"refused ")?;
+    console::print_number(out, code as u64)?;
+    console::print(out, b"\n")
 }
 
-// The first n answers, each on its line.
-pub fn print_answers<W: Write>(out: &mut W, answers: &[u8], n: usize) -> io::Result<()> {
-    for answer in answers.iter().take(n) {
+fn print_answer<W: Write>(out: &mut W, code: u8) -> io::Result<()>
+    ensures { OnOk result (Appends (W.contents out.old) (W.contents out.new) (answer_line code)) }
+{
+    if code == 0 {
+        return console::print(out, b"done\n");
+    }
+    if code == 1 {
+        return console::print(out, b"delivered\n");
+    }
+    if code == 2 {
+        return console::print(out, b"held\n");
+    }
+    print_refused(out, code)
+}
+
+// Answers, each on its line.
+fn print_each<W: Write>(out: &mut W, answers: &[u8]) -> io::Result<()>
+    ensures { OnOk result (Appends (W.contents out.old) (W.contents out.new) (answer_lines answers.now)) }
+{
+    for answer in answers {
         print_answer(out, *answer)?;
     }
     Ok(())
 }
 
-// The tags from one place on and before another, with commas between them.
-fn print_tags<W: Write>(out: &mut W, tags: &[u32], from: usize, to: usize) -> io::Result<()> {
-    for i in from..to.min(tags.len()) {
-        if from < i {
-            console::print(out, b",")?;
-        }
-        console::print_word(out, tags[i])?;
+// The first n answers, each on its line.
+pub fn print_answers<W: Write>(out: &mut W, answers: &[u8], n: usize) -> io::Result<()>
+    ensures { OnOk result (Appends (W.contents out.old) (W.contents out.new) (answer_lines (take n answers.now))) }
+{
+    if n < answers.len() {
+        print_each(out, &answers[0..n])
+    } else {
+        print_each(out, answers)
+    }
+}
+
+// Tags with commas between them.
+fn print_tag_list<W: Write>(out: &mut W, tags: &[u32]) -> io::Result<()>
+    ensures { OnOk result (Appends (W.contents out.old) (W.contents out.new) (tag_list tags.now)) }
+{
+    let Some((first, others)) = tags.split_first() else {
+        return Ok(());
+    };
+    console::print_word(out, *first)?;
+    print_more_tags(out, others)
+}
+
+// Each tag after a comma.
+fn print_more_tags<W: Write>(out: &mut W, tags: &[u32]) -> io::Result<()>
+    ensures { OnOk result (Appends (W.contents out.old) (W.contents out.new) (flat_map (λ t. 44 ∷ decimal t) tags.now)) }
+{
+    for tag in tags {
+        console::print(out, b",")?;
+        console::print_word(out, *tag)?;
     }
     Ok(())
 }
 
-fn print_process<W: Write>(out: &mut W, state: &State, place: u32) -> io::Result<()> {
-    let m = state.plan.identifiers;
-    if 32 < m {
+// The tags from one place on and before another, with commas between them.
+fn print_tags<W: Write>(out: &mut W, tags: &[u32], from: usize, to: usize) -> io::Result<()>
+    ensures { from ≤ to → to ≤ length tags.now
+        → OnOk result (Appends (W.contents out.old) (W.contents out.new) (tag_list (slice_range tags.now from to))) }
+{
+    let end = to.min(tags.len());
+    if end < from {
+        return Ok(());
+    }
+    print_tag_list(out, &tags[from..end])
+}
+
+// What a process's line has before its tags.
+#[tactic(auto, unfolding(crate::specs::Lines::names_of))]
+fn print_names<W: Write>(out: &mut W, serial: u32, template: u32, label: u32) -> io::Result<()>
+    ensures { OnOk result (Appends (W.contents out.old) (W.contents out.new) (names_of serial template label)) }
+{
+    console::print(out, b"serial=")?;
+    console::print_word(out, serial)?;
+    console::print(out, b" template=")?;
+    console::print_word(out, template)?;
+    console::print(out, b" label=")?;
+    console::print_hex_word(out, label)?;
+    console::print(out, b" tags=")
+}
+
+// The tags of a place, of m identifiers.
+fn print_row<W: Write>(out: &mut W, tags: &[u32; 4096], place: u32, m: u32) -> io::Result<()>
+    requires place { place < 128 }
+    requires width { m ≤ 32 }
+    ensures { OnOk result (Appends (W.contents out.old) (W.contents out.new)
+        (tag_list (slice_range tags.now (place * m) ((place + 1) * m)))) }
+{
+    print_tags(
+        out,
+        tags,
+        tagrows::row_start(place, m),
+        tagrows::row_start(place + 1, m),
+    )
+}
+
+// The line of a process at a place that the state has.
+fn print_line<W: Write>(out: &mut W, state: &State, place: u32) -> io::Result<()>
+    requires place { place < 128 }
+    requires width { state.now.plan.identifiers ≤ 32 }
+    ensures { OnOk result (Appends (W.contents out.old) (W.contents out.new) (process_line state.now place)) }
+{
+    let k = arrays::index(place);
+    print_names(out, state.serials[k], state.templates[k], state.labels[k])?;
+    print_row(out, &state.tags, place, state.plan.identifiers)?;
+    console::print(out, b"\n")?;
+    Ok(())
+}
+
+fn print_process<W: Write>(out: &mut W, state: &State, place: u32) -> io::Result<()>
+    ensures { OnOk result (Appends (W.contents out.old) (W.contents out.new) (process_line_at state.now place)) }
+{
+    if 32 < state.plan.identifiers {
         return Ok(());
     }
     if 128 <= place {
         return Ok(());
     }
-    let k = arrays::index(place);
-    console::print(out, b"serial=")?;
-    console::print_word(out, state.serials[k])?;
-    console::print(out, b" template=")?;
-    console::print_word(out, state.templates[k])?;
-    console::print(out, b" label=")?;
-    console::print_hex_word(out, state.labels[k])?;
-    console::print(out, b" tags=")?;
-    print_tags(
-        out,
-        &state.tags,
-        tagrows::row_start(place, m),
-        tagrows::row_start(place + 1, m),
-    )?;
-    console::print(out, b"\n")
+    print_line(out, state, place)
 }
 
-// The next serial and how many live, then each process on its line.
-pub fn print_state<W: Write>(out: &mut W, state: State) -> io::Result<()> {
+// The next serial and how many live.
+fn print_counts<W: Write>(out: &mut W, state: &State) -> io::Result<()>
+    ensures { OnOk result (Appends (W.contents out.old) (W.contents out.new) (counts_line state.now)) }
+{
     console::print(out, b"next=")?;
     console::print_number(out, state.next as u64)?;
     console::print(out, b" live=")?;
     console::print_number(out, state.live as u64)?;
-    console::print(out, b"\n")?;
+    console::print(out, b"\n")
+}
+
+// Each live process on its line.
+fn print_processes<W: Write>(out: &mut W, state: &State) -> io::Result<()>
+    ensures { OnOk result (Appends (W.contents out.old) (W.contents out.new) (process_lines state.now state.now.live)) }
+{
     for place in 0..state.live {
-        print_process(out, &state, place)?;
+        print_process(out, state, place)?;
     }
     Ok(())
+}
+
+// The next serial and how many live, then each process on its line.
+pub fn print_state<W: Write>(out: &mut W, state: State) -> io::Result<()>
+    ensures { OnOk result (Appends (W.contents out.old) (W.contents out.new) (state_lines state)) }
+{
+    print_counts(out, &state)?;
+    print_processes(out, &state)
 }
