@@ -1,15 +1,25 @@
 // What a run of calls is printed as: the run of an accepted pair, or the verdict on another.
 #![tactic(auto)]
 
-ghost use Rattle.std.specs.Prelude.{OnOk};
+ghost use Rattle.std.specs.Prelude.{take, OnOk};
 ghost use Rattle.std.specs.Io.KnownBytes.{Appends};
 ghost use Rattle.rules.specs.Judge.{printed};
+ghost use Rattle.runreport.specs.Run.{fault_line, run_lines, verdict_or_run};
 
 use machine::State;
 use report::ROOM;
 use rules::Verdict;
 use std::io;
 use std::io::Write;
+
+// The line that is no call.
+fn print_fault<W: Write>(out: &mut W, line: u64) -> io::Result<()>
+    ensures { OnOk result (Appends (W.contents out.old) (W.contents out.new) (fault_line line)) }
+{
+    console::print(out, b"unread ")?;
+    console::print_figure(out, b"line=", line)?;
+    Ok(())
+}
 
 // The answers, and then the state, or the line that is no call.
 fn print_run<W: Write>(
@@ -19,11 +29,12 @@ fn print_run<W: Write>(
     state: State,
     fault: bool,
     line: u64,
-) -> io::Result<()> {
+) -> io::Result<()>
+    ensures { OnOk result (Appends (W.contents out.old) (W.contents out.new) (run_lines (take count answers.now) state fault line)) }
+{
     printout::print_answers(out, answers, count)?;
     if fault {
-        console::print(out, b"unread ")?;
-        return console::print_figure(out, b"line=", line);
+        return print_fault(out, line);
     }
     printout::print_state(out, state)
 }
@@ -46,7 +57,9 @@ pub fn print_verdict_or_run<W: Write>(
     state: State,
     fault: bool,
     line: u64,
-) -> io::Result<()> {
+) -> io::Result<()>
+    ensures { OnOk result (Appends (W.contents out.old) (W.contents out.new) (verdict_or_run verdict (take count answers.now) state fault line)) }
+{
     if let Verdict::Accepted = verdict {
         print_run(out, answers, count, state, fault, line)
     } else {
