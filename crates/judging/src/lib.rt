@@ -1,11 +1,13 @@
 // What the program judge does: two files read, judged, and the verdict written.
 #![tactic(auto)]
 
-ghost use Rattle.std.specs.Prelude.{◌≡◌, ◌++◌, ◌≤◌, length, drop};
+ghost use Rattle.std.specs.Prelude.{◌≡◌, ◌++◌, ◌≤◌, length, drop, OnOk};
+ghost use Rattle.std.specs.Io.KnownBytes.{Appends};
 ghost use Rattle.rules.specs.Judge.{judge, printed};
 
 use report::ROOM;
 use std::io;
+use std::io::Write;
 use std::rt::Files;
 
 // How many bytes judge prints of two texts; they stand at the buffer's start.
@@ -14,6 +16,15 @@ pub fn judge_texts<'a>(plan: &'a [u8], policy: &'a [u8], out: &'a mut [u8; ROOM]
     ensures room { result ≤ length out.new }
 {
     report::write_verdict(verdict::judge(plan, policy), out)
+}
+
+// Prints the verdict on two texts.
+pub fn print_judged<'a, W: Write>(out: &mut W, plan: &'a [u8], policy: &'a [u8]) -> io::Result<()>
+    ensures { OnOk result (Appends (W.contents out.old) (W.contents out.new) (printed (judge plan.now policy.now))) }
+{
+    let mut text = [0u8; ROOM];
+    let n = judge_texts(plan, policy, &mut text);
+    console::print(out, &text[0..n])
 }
 
 // A buffer for a file has more room than a text may have bytes, so a file that is too long is seen to be.
@@ -26,7 +37,5 @@ pub fn judge_files(
     let n = console::read_file(rt, plan_name, &mut plan)?;
     let mut policy = console::large_buffer();
     let m = console::read_file(rt, policy_name, &mut policy)?;
-    let mut out = [0u8; ROOM];
-    let k = judge_texts(&plan[0..n], &policy[0..m], &mut out);
-    console::print(&mut io::writer(rt), &out[0..k])
+    print_judged(&mut io::writer(rt), &plan[0..n], &policy[0..m])
 }

@@ -1,6 +1,10 @@
 // What a run of calls is printed as: the run of an accepted pair, or the verdict on another.
 #![tactic(auto)]
 
+ghost use Rattle.std.specs.Prelude.{OnOk};
+ghost use Rattle.std.specs.Io.KnownBytes.{Appends};
+ghost use Rattle.rules.specs.Judge.{printed};
+
 use machine::State;
 use report::ROOM;
 use rules::Verdict;
@@ -25,7 +29,9 @@ fn print_run<W: Write>(
 }
 
 // The verdict as judge prints it.
-fn print_verdict<W: Write>(out: &mut W, verdict: Verdict) -> io::Result<()> {
+fn print_verdict<W: Write>(out: &mut W, verdict: Verdict) -> io::Result<()>
+    ensures { OnOk result (Appends (W.contents out.old) (W.contents out.new) (printed verdict)) }
+{
     let mut text = [0u8; ROOM];
     let n = report::write_verdict(verdict, &mut text);
     console::print(out, &text[0..n])

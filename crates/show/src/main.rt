@@ -1,14 +1,25 @@
 // show: reads plan.txt and policy.txt and prints the part of them that the verdict points at, and byte 10.
 #![tactic(auto)]
 
+ghost use Rattle.std.specs.Prelude.{[], ◌∷◌, ◌++◌, OnOk};
+ghost use Rattle.std.specs.Io.KnownBytes.{Appends};
+ghost use Rattle.rules.specs.Show.{shown};
+
 use std::io;
+use std::io::Write;
+
+// The part that the verdict on two texts points at, and byte 10.
+fn print_shown<'a, W: Write>(out: &mut W, plan: &'a [u8], policy: &'a [u8]) -> io::Result<()>
+    ensures { OnOk result (Appends (W.contents out.old) (W.contents out.new) (shown plan.now policy.now ++ 10 ∷ [])) }
+{
+    console::print(out, showing::show(plan, policy))?;
+    console::print(out, b"\n")
+}
 
 fn main(rt: HostRuntime) -> io::Result<()> {
     let mut plan = console::large_buffer();
     let n = console::read_file(&rt, b"plan.txt", &mut plan)?;
     let mut policy = console::large_buffer();
     let m = console::read_file(&rt, b"policy.txt", &mut policy)?;
-    let mut out = io::writer(&rt);
-    console::print(&mut out, showing::show(&plan[0..n], &policy[0..m]))?;
-    console::print(&mut out, b"\n")
+    print_shown(&mut io::writer(&rt), &plan[0..n], &policy[0..m])
 }

@@ -1,11 +1,17 @@
 // Shows the part that the verdict points at, for stored pairs of texts, each on its own line.
 #![tactic(auto)]
 
+ghost use Rattle.std.specs.Prelude.{[], ◌∷◌, ◌++◌, OnOk};
+ghost use Rattle.std.specs.Io.KnownBytes.{Appends};
+ghost use Rattle.rules.specs.Show.{shown};
+
 use std::fs::File;
 use std::io;
 use std::io::{Read, Write};
 
-fn print_case<'a, W: Write>(out: &mut W, plan: &'a [u8], policy: &'a [u8]) -> io::Result<()> {
+fn print_case<'a, W: Write>(out: &mut W, plan: &'a [u8], policy: &'a [u8]) -> io::Result<()>
+    ensures { OnOk result (Appends (W.contents out.old) (W.contents out.new) (shown plan.now policy.now ++ 10 ∷ [])) }
+{
     console::print(out, showing::show(plan, policy))?;
     console::print(out, b"\n")
 }
