@@ -1,4 +1,4 @@
-/* The label monitor and the plan judge, for a program that links libembed.a (`rt staticlib embed`).
+/* The label monitor and the plan judge, for a program that links libembed.a (`tools/build staticlib embed`).
  *
  * Memory. The library keeps nothing and allocates nothing: every function works on memory that the caller owns and
  * lends for the time of the call. No pointer may be null, and memory that one call may write must not overlap with any

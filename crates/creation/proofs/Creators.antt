@@ -3,7 +3,6 @@ use Prim.Native.Nat.{ℕ, ◌+◌, ◌≤◌, ◌<◌}
 use mathlib.Core.Path.{◌≡◌, refl, sym, ap, ap₂, subst, ◌∙◌}
 use mathlib.Core.Bool.{Bool, true, false, cond, ◌&&◌, ◌||◌, and-false}
 use mathlib.Core.Logic.{⊎_elim}
-use mathlib.Core.List.{map}
 use native.Mathlib.Nat.{le_trans, lt_trans}
 use native.Mathlib.Omega.{arith}
 use lib.Dec.{leb, ltb}

@@ -1,5 +1,4 @@
 -- The test asks of the children that are there.
-use borrow.Author.Rules.{rules}
 use Rattle.admission.proofs.Refusals.{fits_all}
 use Rattle.admission.proofs.are_fitting.Goals as goal
 

@@ -1,5 +1,4 @@
 -- By the form.
-use borrow.Author.Rules.{rules}
 use Rattle.machine.specs.Machine.{branch_fits}
 use Rattle.admission.proofs.is_branch.Goals as goal
 

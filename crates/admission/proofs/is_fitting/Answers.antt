@@ -1,6 +1,5 @@
 -- The lowest offending identifier is none of the plan's.
 use Rattle.admission.proofs.Refusals.{fits_one}
-use borrow.Author.Rules.{rules}
 use Rattle.admission.proofs.is_fitting.Goals as goal
 
 pub returns : goal.returns

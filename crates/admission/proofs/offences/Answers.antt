@@ -1,6 +1,5 @@
 -- The masks of the three rows together.
 use Rattle.admission.proofs.Refusals.{offences_gathered}
-use borrow.Author.Rules.{rules}
 use Rattle.admission.proofs.offences.Goals as goal
 
 pub returns : goal.returns

@@ -1,5 +1,4 @@
 -- The refusals in document order, each by its law.
-use borrow.Author.Rules.{rules}
 use Rattle.admission.proofs.Refusals.{refused_22, refused_23, refused_24, refused_25, refused_none}
 use Rattle.std.proofs.Common.{ap}
 use mathlib.Core.Bool.{not}

@@ -1,6 +1,5 @@
 -- By the kind, which is that of the arm.
 use Rattle.assertions.proofs.Order.{secrecy_kind, prot_kind}
-use borrow.Author.Rules.{rules}
 use Rattle.assertions.proofs.check_assertion.Goals as goal
 
 pub returns-in-Secrecy : goal.returns-in-Secrecy

@@ -2,8 +2,7 @@
 use Prim.Native.Nat.{◌-◌}
 use borrow.Author.Tests.{not-true, not-false}
 use native.Mathlib.Omega.{arith}
-use Rattle.assertions.proofs.Order.{AllSoFar, all_start, all_room, all_more, all_stop, all_end}
-use borrow.Author.Rules.{rules}
+use Rattle.assertions.proofs.Order.{all_start, all_room, all_more, all_stop, all_end}
 use Rattle.assertions.proofs.check_assertions.Goals as goal
 
 pub loop-i-init : goal.loop-i-init

@@ -1,8 +1,5 @@
 use Prim.Native.Nat.{◌-◌}
-use borrow.Author.Tests.{not-true, not-false}
-use native.Mathlib.Omega.{arith}
-use Rattle.assertions.proofs.Order.{AllSoFar, all_start, all_room, all_more, all_stop, all_end}
-use borrow.Author.Rules.{rules}
+use Rattle.assertions.proofs.Order.{AllSoFar}
 use Rattle.assertions.proofs.check_assertions.Given as goal
 
 abbrev pub invariant-loop-i : goal.invariant-loop-i

@@ -1,7 +1,6 @@
 -- The lowest item of the mask of identifiers that are created twice; its two lowest creators.
 use Rattle.offenders.proofs.Masks.{item_room}
 use Rattle.creation.proofs.Creators.{creator_room, made_once, made_twice}
-use borrow.Author.Rules.{rules}
 use Rattle.creation.proofs.check_11.Goals as goal
 
 pub returns-then-plan-t : goal.returns-then-plan-t

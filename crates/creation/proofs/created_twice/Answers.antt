@@ -1,8 +1,6 @@
 -- After x templates the masks have what those created once, and again.
-use Prim.Native.Nat.{◌-◌}
-use Rattle.creation.proofs.Creators.{Gathered, gathered_none, gathered_room, gathered_place, gathered_more, gathered_all}
+use Rattle.creation.proofs.Creators.{gathered_none, gathered_room, gathered_place, gathered_more, gathered_all}
 use native.Mathlib.Omega.{arith}
-use borrow.Author.Rules.{rules}
 use Rattle.creation.proofs.created_twice.Goals as goal
 
 pub loop-x-init : goal.loop-x-init

@@ -1,7 +1,5 @@
 use Prim.Native.Nat.{◌-◌}
-use Rattle.creation.proofs.Creators.{Gathered, gathered_none, gathered_room, gathered_place, gathered_more, gathered_all}
-use native.Mathlib.Omega.{arith}
-use borrow.Author.Rules.{rules}
+use Rattle.creation.proofs.Creators.{Gathered}
 use Rattle.creation.proofs.created_twice.Given as goal
 
 abbrev pub invariant-loop-x : goal.invariant-loop-x

@@ -1,8 +1,6 @@
 -- So far no template from the given one on creates it.
-use Prim.Native.Nat.{◌-◌}
-use Rattle.creation.proofs.Creators.{Passing, from_start, from_room, from_place, from_miss, from_hit, from_end}
+use Rattle.creation.proofs.Creators.{from_start, from_room, from_place, from_miss, from_hit, from_end}
 use native.Mathlib.Omega.{arith}
-use borrow.Author.Rules.{rules}
 use Rattle.creation.proofs.creator_from.Goals as goal
 
 pub loop-x-init : goal.loop-x-init

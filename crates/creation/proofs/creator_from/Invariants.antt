@@ -1,7 +1,5 @@
 use Prim.Native.Nat.{◌-◌}
-use Rattle.creation.proofs.Creators.{Passing, from_start, from_room, from_place, from_miss, from_hit, from_end}
-use native.Mathlib.Omega.{arith}
-use borrow.Author.Rules.{rules}
+use Rattle.creation.proofs.Creators.{Passing}
 use Rattle.creation.proofs.creator_from.Given as goal
 
 abbrev pub invariant-loop-x : goal.invariant-loop-x

@@ -1,5 +1,4 @@
 -- The refusals in document order, each by its law; then the message, by the labels and tags at the two places.
-use borrow.Author.Rules.{rules}
 use Rattle.delivery.proofs.Sends.{sent_from_none, sent_to_none, sent_itself, sent_delivered, sent_held}
 use Rattle.population.proofs.Lent.{place_within}
 use Rattle.delivery.proofs.attempt.Goals as goal

@@ -1,5 +1,4 @@
 -- The definition, by the two masks.
-use borrow.Author.Rules.{rules}
 use Rattle.delivery.proofs.Sends.{agreed}
 use Rattle.delivery.proofs.is_agreed.Goals as goal
 

@@ -1,15 +1,10 @@
-use borrow.Author.Rules.{rules}
 use Prim.Native.Nat.{◌+◌, ◌-◌, ◌≤◌}
 use mathlib.Core.Path.{◌≡◌}
 use mathlib.Core.Bool.{not, ◌&&◌, ◌||◌}
-use native.Mathlib.Omega.{arith}
 use lib.Dec.{eqb}
 use lib.ListN.{length, get_or}
 use Rattle.mask.specs.Mask.{has}
 use Rattle.lists.specs.Numbers.{every}
-use Rattle.lists.proofs.Every.{every_start, every_told}
-use Rattle.delivery.proofs.Sends.{parts_there, passed_short, passed_parts}
-use Rattle.std.proofs.Common.{ap}
 use Rattle.delivery.proofs.is_passed.Given as goal
 
 abbrev pub invariant-loop-i : goal.invariant-loop-i

@@ -1,5 +1,4 @@
 -- The kind tells which attempt it is.
-use borrow.Author.Rules.{rules}
 use Rattle.dispatch.proofs.Called.{called_step, called_send, called_move}
 use Rattle.dispatch.proofs.attempt.Goals as goal
 

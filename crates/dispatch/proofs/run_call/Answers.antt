@@ -1,5 +1,4 @@
 -- 20, else what the attempt did.
-use borrow.Author.Rules.{rules}
 use Rattle.population.proofs.Lent.{asked_bad, asked}
 use Rattle.dispatch.proofs.run_call.Goals as goal
 

@@ -1,6 +1,5 @@
 -- Each row is asked by the mask of its offenders.
 use Rattle.edges.proofs.Offenders.{rows_asked}
-use borrow.Author.Rules.{rules}
 use Rattle.edges.proofs.check_edge.Goals as goal
 
 pub returns : goal.returns

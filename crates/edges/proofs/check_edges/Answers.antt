@@ -2,7 +2,7 @@
 use mathlib.Core.Path.{◌≡◌, refl, sym, ◌∙◌}
 use native.Mathlib.Omega.{arith}
 use Rattle.plan.specs.Plan.{at}
-use Rattle.edges.proofs.Forms.{Passed, edges_start, edges_room, edges_more, edges_hit, edges_end}
+use Rattle.edges.proofs.Forms.{edges_start, edges_room, edges_more, edges_hit, edges_end}
 use Rattle.edges.proofs.check_edges.Goals as goal
 use Rattle.edges.proofs.check_edges.Goals.{then-y-lt64, else-y-lt64, then-z-lt64, else-z-lt64}
 

@@ -1,5 +1,4 @@
 -- By how many successors there are.
-use borrow.Author.Rules.{rules}
 use Rattle.edges.specs.Wide.{edges_of}
 use Rattle.edges.proofs.Forms.{of_none, of_one, of_two}
 use Rattle.edges.proofs.check_edges_from.Goals as goal

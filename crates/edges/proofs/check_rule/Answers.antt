@@ -1,7 +1,6 @@
 -- By the lowest item below the limit, where there is one.
 use Rattle.offenders.proofs.Masks.{item_room}
 use Rattle.edges.proofs.Offenders.{rule_kept, rule_broken}
-use borrow.Author.Rules.{rules}
 use Rattle.edges.proofs.check_rule.Goals as goal
 
 pub returns-then-limit-i : goal.returns-then-limit-i

@@ -1,5 +1,4 @@
 -- The call on the lent memory, as it is.
-use borrow.Author.Rules.{rules}
 use Rattle.embed.proofs.monitor_call.Goals as goal
 
 pub returns : goal.returns

@@ -1,7 +1,6 @@
 -- The words of the verdict that the judge gave.
 use mathlib.Core.Path.{ap, ◌∙◌}
 use Rattle.rules.specs.Judge.{numbers_of}
-use borrow.Author.Rules.{rules}
 use Rattle.embed.proofs.monitor_judge.Goals as goal
 
 pub returns : goal.returns

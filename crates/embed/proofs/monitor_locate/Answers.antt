@@ -1,7 +1,6 @@
 -- The words of the part that was located.
 use mathlib.Core.Path.{ap, ◌∙◌}
 use Rattle.words.specs.Words.{part_words}
-use borrow.Author.Rules.{rules}
 use Rattle.embed.proofs.monitor_locate.Goals as goal
 
 pub returns : goal.returns

@@ -1,6 +1,5 @@
 -- What replay hands back, its verdict in words.
 use Rattle.embed.proofs.Replayed.{replayed_all}
-use borrow.Author.Rules.{rules}
 use Rattle.embed.proofs.monitor_replay.Goals as goal
 
 pub returns : goal.returns

@@ -1,5 +1,4 @@
 -- The run on the lent memory.
-use borrow.Author.Rules.{rules}
 use Rattle.embed.proofs.monitor_run.Goals as goal
 
 pub returns : goal.returns

@@ -1,7 +1,6 @@
 -- By the form.
 use mathlib.Core.Path.{refl}
 use Rattle.planrow.specs.Row.{form_number, first_of, second_of}
-use borrow.Author.Rules.{rules}
 use Rattle.encoding.proofs.form_words.Goals as goal
 
 pub returns-in-End : goal.returns-in-End

@@ -1,10 +1,9 @@
 -- The words are stored up to the place that the loop has reached.
-use Prim.Native.Nat.{ℕ, ◌-◌, ◌≤◌}
+use Prim.Native.Nat.{◌-◌}
 use mathlib.Core.Path.{◌≡◌, refl}
 use native.Mathlib.Omega.{arith}
-use lib.ListN.{get_or, length, length-set}
+use lib.ListN.{length-set}
 use borrow.Author.Rules.{rules}
-use Rattle.lists.specs.Writes.{written}
 use Rattle.lists.proofs.Written.{written_none, written_more}
 use Rattle.planrow.specs.Row.{width}
 use Rattle.encoding.proofs.put_words.Goals as goal

@@ -1,8 +1,7 @@
 -- The words of the first i templates stand there (Writing); how many are left falls.
 use Prim.Native.Nat.{◌-◌}
-use borrow.Author.Rules.{rules}
 use Rattle.plan.specs.Plan.{at}
-use Rattle.encoding.proofs.Writing.{Writing, writing_none, writing_room, writing_more, writing_all}
+use Rattle.encoding.proofs.Writing.{writing_none, writing_room, writing_more, writing_all}
 use Rattle.encoding.proofs.row_of.Goals as goal
 
 pub loop-i-init : goal.loop-i-init

@@ -1,6 +1,5 @@
 -- The form's words, and the rest as they stand.
 use Rattle.encoding.proofs.Writing.{words_whole}
-use borrow.Author.Rules.{rules}
 use Rattle.encoding.proofs.words_of.Goals as goal
 
 pub returns : goal.returns

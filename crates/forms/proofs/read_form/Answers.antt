@@ -4,7 +4,6 @@ use Rattle.scan.proofs.Ways.{cond_yes, cond_no}
 use Rattle.scan.proofs.Steps.{starts_room}
 use Rattle.field.specs.Fields.{form}
 use Rattle.forms.proofs.Forms.{after_go, after-pair}
-use borrow.Author.Rules.{rules}
 use Rattle.forms.proofs.read_form.Goals as goal
 
 pub returns-then-same_bytes : goal.returns-then-same_bytes

@@ -1,6 +1,5 @@
 -- The layout of both numbers first, then the range of each.
 use Rattle.forms.proofs.Forms.{pair_none, pair_first, pair_second, pair_low, pair_high, pair_is}
-use borrow.Author.Rules.{rules}
 use Rattle.forms.proofs.read_pair.Goals as goal
 
 pub returns-then-s-comma : goal.returns-then-s-comma

@@ -1,5 +1,4 @@
 -- The refusals in document order, each by its law; then the label at the place found.
-use borrow.Author.Rules.{rules}
 use Rattle.population.proofs.Lent.{place_within, tried_wide}
 use Rattle.labelling.proofs.Labels.{move_gone, move_refused, move_done, below-width}
 use Rattle.labelling.proofs.attempt.Goals as goal

@@ -1,5 +1,4 @@
 -- By the direction, one item more or one less.
-use borrow.Author.Rules.{rules}
 use Rattle.labelling.proofs.Labels.{label_raised, label_lowered}
 use Rattle.labelling.proofs.label_with.Goals as goal
 

@@ -1,5 +1,4 @@
 -- The refusals in document order, each by its law.
-use borrow.Author.Rules.{rules}
 use Rattle.labelling.proofs.Labels.{refused_27, refused_28, refused_29, refused_none}
 use Rattle.labelling.proofs.refusal.Goals as goal
 

@@ -1,5 +1,4 @@
 -- The shifted 1 stays below the width.
-use borrow.Author.Rules.{rules}
 use Rattle.mask.proofs.Shifted.{one_shifted}
 use Rattle.labelling.proofs.single.Goals as goal
 

@@ -1,11 +1,6 @@
 -- `layout::creators`: the loop has collected the creators below x. The measure is what is left of 64.
-use Prim.Native.Nat.{◌-◌, ◌≤◌}
-use mathlib.Core.Path.{◌≡◌}
 use native.Mathlib.Omega.{arith}
-use Rattle.route.specs.Search.{collect}
-use Rattle.layout.specs.Layout.{made_by}
 use Rattle.layout.proofs.Collecting.{collect_none, creators_more, collect_end}
-use borrow.Author.Rules.{rules}
 use Rattle.layout.proofs.creators.Goals as goal
 
 pub loop-x-init : goal.loop-x-init

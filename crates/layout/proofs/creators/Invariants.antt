@@ -1,10 +1,7 @@
 use Prim.Native.Nat.{◌-◌, ◌≤◌}
 use mathlib.Core.Path.{◌≡◌}
-use native.Mathlib.Omega.{arith}
 use Rattle.route.specs.Search.{collect}
 use Rattle.layout.specs.Layout.{made_by}
-use Rattle.layout.proofs.Collecting.{collect_none, creators_more, collect_end}
-use borrow.Author.Rules.{rules}
 use Rattle.layout.proofs.creators.Given as goal
 
 abbrev pub invariant-loop-x : goal.invariant-loop-x

@@ -1,8 +1,6 @@
 -- `layout::lay_templates`: all is laid out below x. The measure is what is left of 64.
-use Prim.Native.Nat.{◌-◌}
 use native.Mathlib.Omega.{arith}
-use Rattle.layout.proofs.Laying.{Laying, lay_start, lay_more, lay_end}
-use borrow.Author.Rules.{rules}
+use Rattle.layout.proofs.Laying.{lay_start, lay_more, lay_end}
 use Rattle.layout.proofs.lay_templates.Goals as goal
 
 pub loop-x-init : goal.loop-x-init

@@ -1,7 +1,5 @@
 use Prim.Native.Nat.{◌-◌}
-use native.Mathlib.Omega.{arith}
-use Rattle.layout.proofs.Laying.{Laying, lay_start, lay_more, lay_end}
-use borrow.Author.Rules.{rules}
+use Rattle.layout.proofs.Laying.{Laying}
 use Rattle.layout.proofs.lay_templates.Given as goal
 
 abbrev pub invariant-loop-x : goal.invariant-loop-x

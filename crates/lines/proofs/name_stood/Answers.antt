@@ -1,8 +1,5 @@
 -- The names passed, from the last down, differ from this one; so the answer is that for the names before them.
-use mathlib.Core.Path.{◌≡◌, refl}
-use borrow.Author.Rules.{rules}
-use Rattle.scan.specs.Bytes.{stands_in}
-use Rattle.lines.specs.Names.{names_of}
+use mathlib.Core.Path.{refl}
 use Rattle.lines.proofs.Names.{stood_none, stood_here, stood_on}
 use Rattle.lines.proofs.name_stood.Goals as goal
 

@@ -1,8 +1,6 @@
-use mathlib.Core.Path.{◌≡◌, refl}
-use borrow.Author.Rules.{rules}
+use mathlib.Core.Path.{◌≡◌}
 use Rattle.scan.specs.Bytes.{stands_in}
 use Rattle.lines.specs.Names.{names_of}
-use Rattle.lines.proofs.Names.{stood_none, stood_here, stood_on}
 use Rattle.lines.proofs.name_stood.Given as goal
 
 abbrev pub invariant-loop-j : goal.invariant-loop-j

@@ -1,6 +1,5 @@
 -- In each arm the text is that arm's.
 use Rattle.locating.proofs.Parts.{fault_plan, fault_policy}
-use borrow.Author.Rules.{rules}
 use Rattle.locating.proofs.fault_part.Goals as goal
 
 pub returns-in-Plan : goal.returns-in-Plan

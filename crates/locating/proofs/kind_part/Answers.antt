@@ -1,6 +1,5 @@
 -- The line.
 use Rattle.locating.proofs.Parts.{kind_lies}
-use borrow.Author.Rules.{rules}
 use Rattle.locating.proofs.kind_part.Goals as goal
 
 pub returns : goal.returns

@@ -1,6 +1,5 @@
 -- The bytes before byte 10, from the start on.
 use Rattle.locating.proofs.Lines.{end_room, end_is, fits}
-use borrow.Author.Rules.{rules}
 use Rattle.locating.proofs.line_end.Goals as goal
 
 pub overflow_add-result : goal.overflow_add-result

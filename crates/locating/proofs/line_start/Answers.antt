@@ -1,5 +1,5 @@
 -- Each turn skips one line; the line sought is the same from where it stands.
-use Rattle.locating.proofs.Lines.{Skipping, skip_none, skip_missing, skip_line, skip_done, end_room, fits}
+use Rattle.locating.proofs.Lines.{skip_none, skip_missing, skip_line, skip_done, end_room, fits}
 use borrow.Author.Rules.{rules}
 use Rattle.locating.proofs.line_start.Goals as goal
 

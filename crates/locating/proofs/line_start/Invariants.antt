@@ -1,5 +1,4 @@
-use Rattle.locating.proofs.Lines.{Skipping, skip_none, skip_missing, skip_line, skip_done, end_room, fits}
-use borrow.Author.Rules.{rules}
+use Rattle.locating.proofs.Lines.{Skipping}
 use Rattle.locating.proofs.line_start.Given as goal
 
 abbrev pub invariant-loop-left : goal.invariant-loop-left

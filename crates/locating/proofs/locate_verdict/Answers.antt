@@ -1,6 +1,5 @@
 -- By the verdict, and for a broken rule by its number.
 use Rattle.locating.proofs.Parts.{accepted_lies, edge_lies, assertion_lies, unread_lies}
-use borrow.Author.Rules.{rules}
 use Rattle.locating.proofs.locate_verdict.Goals as goal
 
 pub returns-then-b-is_edge_rule : goal.returns-then-b-is_edge_rule

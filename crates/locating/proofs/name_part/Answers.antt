@@ -1,6 +1,5 @@
 -- The line, without the five bytes of its key.
 use Rattle.locating.proofs.Parts.{name_lies}
-use borrow.Author.Rules.{rules}
 use Rattle.locating.proofs.name_part.Goals as goal
 
 pub returns : goal.returns

@@ -1,5 +1,4 @@
 -- What the call on the lent row and arrays did, its place stored.
-use borrow.Author.Rules.{rules}
 use Rattle.memory.proofs.Answered.{answered}
 use Rattle.memory.proofs.call.Goals as goal
 

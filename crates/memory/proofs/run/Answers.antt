@@ -1,5 +1,4 @@
 -- What the calls on the lent row and arrays left, its place stored.
-use borrow.Author.Rules.{rules}
 use Rattle.memory.proofs.Answered.{runs_row}
 use Rattle.memory.proofs.run.Goals as goal
 

@@ -1,5 +1,4 @@
 -- What the call on lent arrays did, of the arrays copied out of the state and put back.
-use borrow.Author.Rules.{rules}
 use Rattle.machine.specs.State.{machine_of, outcome_of}
 use Rattle.population.proofs.ByRow.{by_row}
 use Rattle.monitor.proofs.Kept.{kept}

@@ -1,5 +1,4 @@
 -- The call whose kind it is.
-use borrow.Author.Rules.{rules}
 use Rattle.machine.specs.State.{call_of}
 use Rattle.monitor.proofs.raise.Goals as goal
 

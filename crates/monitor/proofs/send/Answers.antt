@@ -1,5 +1,4 @@
 -- The call whose kind it is; no send is done.
-use borrow.Author.Rules.{rules}
 use Rattle.machine.specs.State.{call_of}
 use Rattle.monitor.proofs.Kept.{sent_kept}
 use Rattle.monitor.proofs.send.Goals as goal

@@ -1,6 +1,5 @@
 -- The lowest item of all, where it is below the limit.
 use Rattle.offenders.proofs.Masks.{found_below, none_below}
-use borrow.Author.Rules.{rules}
 use Rattle.offenders.proofs.lowest_below.Goals as goal
 
 pub returns-then-i-limit : goal.returns-then-i-limit

@@ -1,6 +1,5 @@
 -- What is left after the one mask and after the other is taken away.
 use Rattle.offenders.proofs.Masks.{less_less}
-use borrow.Author.Rules.{rules}
 use Rattle.offenders.proofs.offenders_13.Goals as goal
 
 pub returns : goal.returns

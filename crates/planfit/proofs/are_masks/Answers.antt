@@ -1,9 +1,7 @@
 -- The loop has joined the masks below word k; how many are left falls.
 use Prim.Native.Nat.{◌-◌}
 use native.Mathlib.Omega.{arith}
-use borrow.Author.Rules.{rules}
-use Rattle.planrow.specs.Row.{risk_word}
-use Rattle.planfit.proofs.Fitting.{Joined, joined_none, joined_more, joined_all}
+use Rattle.planfit.proofs.Fitting.{joined_none, joined_more, joined_all}
 use Rattle.planfit.proofs.are_masks.Goals as goal
 
 pub loop-k-init : goal.loop-k-init

@@ -1,8 +1,6 @@
 use Prim.Native.Nat.{◌-◌}
-use native.Mathlib.Omega.{arith}
-use borrow.Author.Rules.{rules}
 use Rattle.planrow.specs.Row.{risk_word}
-use Rattle.planfit.proofs.Fitting.{Joined, joined_none, joined_more, joined_all}
+use Rattle.planfit.proofs.Fitting.{Joined}
 use Rattle.planfit.proofs.are_masks.Given as goal
 
 abbrev pub invariant-loop-k : goal.invariant-loop-k

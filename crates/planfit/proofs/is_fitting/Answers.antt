@@ -1,11 +1,9 @@
 -- The counts; then the loop has gathered the test of the first i templates, and how many are left falls.
-use Prim.Native.Nat.{◌-◌, ◌≤◌}
-use mathlib.Core.Path.{◌≡◌}
+use Prim.Native.Nat.{◌-◌}
 use native.Mathlib.Omega.{arith}
 use borrow.Author.Rules.{rules}
-use Rattle.lists.specs.Numbers.{every}
 use Rattle.lists.proofs.Every.{every_start, every_told}
-use Rattle.planfit.proofs.Fitting.{fits_at, fits_part, Counted, counted, row_uncounted, row_gathered}
+use Rattle.planfit.proofs.Fitting.{fits_part, counted, row_uncounted, row_gathered}
 use Rattle.planfit.proofs.is_fitting.Goals as goal
 
 pub returns-then-n-m : goal.returns-then-n-m

@@ -2,7 +2,6 @@
 use mathlib.Core.Path.{ap}
 use native.Mathlib.Omega.{arith}
 use lib.Dec.{ltb}
-use borrow.Author.Rules.{rules}
 use Rattle.mask.proofs.Shifted.{one_shifted}
 use Rattle.planfit.proofs.is_mask.Goals as goal
 

@@ -1,6 +1,5 @@
 -- The definition, word by word.
 use Rattle.planfit.proofs.Fitting.{template_gathered}
-use borrow.Author.Rules.{rules}
 use Rattle.planfit.proofs.template_fits.Goals as goal
 
 pub returns : goal.returns

@@ -1,6 +1,5 @@
 -- The definition, test by test.
 use mathlib.Core.Path.{refl}
-use borrow.Author.Rules.{rules}
 use Rattle.planrow.specs.Row.{is_template}
 use Rattle.planrow.proofs.is_template.Goals as goal
 

@@ -1,6 +1,5 @@
 -- As the look-up goes: past the places, words that are none, and a template.
 use mathlib.Core.Path.{◌∙◌}
-use borrow.Author.Rules.{rules}
 use native.Mathlib.Omega.{arith}
 use Rattle.planrow.proofs.Lookup.{look_past, look_not, look_means, look_so}
 use Rattle.planrow.proofs.template_at.Goals as goal

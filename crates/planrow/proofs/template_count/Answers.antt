@@ -1,6 +1,5 @@
 -- The word is read where the definition says.
 use mathlib.Core.Path.{refl}
-use borrow.Author.Rules.{rules}
 use Rattle.planrow.specs.Row.{count_in}
 use Rattle.planrow.proofs.template_count.Goals as goal
 

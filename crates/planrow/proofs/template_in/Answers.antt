@@ -1,5 +1,4 @@
 -- Word by word.
-use borrow.Author.Rules.{rules}
 use Rattle.planrow.proofs.Reading.{template_whole, first_byte, second_byte}
 use Rattle.planrow.proofs.template_in.Goals as goal
 

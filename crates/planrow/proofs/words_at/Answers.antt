@@ -1,6 +1,5 @@
 -- The part begins where the words do, and is as long as they are; past the last place the row has no words.
 use native.Mathlib.Omega.{arith}
-use borrow.Author.Rules.{rules}
 use Rattle.planrow.proofs.Parts.{part_lent, part_long, part_past}
 use Rattle.planrow.proofs.words_at.Goals as goal
 

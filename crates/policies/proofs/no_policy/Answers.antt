@@ -1,7 +1,6 @@
 -- Every place holds what blank_assertion gives.
 use mathlib.Core.Path.{ap}
 use lib.ListN.{replicate}
-use borrow.Author.Rules.{rules}
 use Rattle.plan.specs.declared.Assertion.{Assertion}
 use Rattle.policies.proofs.no_policy.Goals as goal
 

@@ -1,7 +1,6 @@
 use Prim.Native.Nat.{◌-◌}
-use borrow.Author.Rules.{rules}
 use Rattle.text.specs.Cursors.{cursor_of}
-use Rattle.policies.proofs.Assertions.{Turn, turn_first, turn_next, turn_last}
+use Rattle.policies.proofs.Assertions.{Turn}
 use Rattle.policies.proofs.read_assertions.Given as goal
 
 abbrev pub invariant-loop-i : goal.invariant-loop-i

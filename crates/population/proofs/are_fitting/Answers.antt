@@ -1,5 +1,4 @@
 -- The five tests are the definition's, the masks' limit and the tags' count as the code has them.
-use borrow.Author.Rules.{rules}
 use Rattle.population.proofs.Fits.{parts_gathered}
 use Rattle.population.proofs.are_fitting.Goals as goal
 

@@ -1,6 +1,5 @@
 -- By the lowest offender: 32 where there is none, past the limit, or below it.
 use Rattle.prot.proofs.Prot.{prot_none, prot_past, prot_found}
-use borrow.Author.Rules.{rules}
 use Rattle.prot.proofs.check_prot.Goals as goal
 
 pub returns-then-t-ge32 : goal.returns-then-t-ge32

@@ -1,9 +1,7 @@
 -- So far the identifiers below t are found.
 use Prim.Native.Nat.{◌-◌}
 use native.Mathlib.Omega.{arith}
-use Rattle.prot.specs.Lent.{parted}
-use Rattle.prot.proofs.Prot.{FoundSoFar, found_none, found_more, found_end}
-use borrow.Author.Rules.{rules}
+use Rattle.prot.proofs.Prot.{found_none, found_more, found_end}
 use Rattle.prot.proofs.find_parted.Goals as goal
 
 pub loop-t-init : goal.loop-t-init

@@ -1,8 +1,6 @@
 use Prim.Native.Nat.{◌-◌}
-use native.Mathlib.Omega.{arith}
 use Rattle.prot.specs.Lent.{parted}
-use Rattle.prot.proofs.Prot.{FoundSoFar, found_none, found_more, found_end}
-use borrow.Author.Rules.{rules}
+use Rattle.prot.proofs.Prot.{FoundSoFar}
 use Rattle.prot.proofs.find_parted.Given as goal
 
 abbrev pub invariant-loop-t : goal.invariant-loop-t

@@ -1,7 +1,6 @@
 -- One law for each way out.
 use borrow.Author.Tests.{not-true, not-false}
 use Rattle.prot.proofs.Prot.{unasked, unparted, taken_in}
-use borrow.Author.Rules.{rules}
 use Rattle.prot.proofs.include_parted.Goals as goal
 
 pub returns-then-not-contains_u32 : goal.returns-then-not-contains_u32

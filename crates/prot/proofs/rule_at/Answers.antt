@@ -1,6 +1,5 @@
 -- By the label.
 use Rattle.prot.proofs.Prot.{rule_18, rule_19}
-use borrow.Author.Rules.{rules}
 use Rattle.prot.proofs.rule_at.Goals as goal
 
 pub returns-then-contains_u32 : goal.returns-then-contains_u32

@@ -1,7 +1,6 @@
 -- Every place holds what blank_template gives.
 use mathlib.Core.Path.{ap}
 use lib.ListN.{replicate}
-use borrow.Author.Rules.{rules}
 use Rattle.plan.specs.declared.Template.{Template}
 use Rattle.reader.proofs.no_plan.Goals as goal
 

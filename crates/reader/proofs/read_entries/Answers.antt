@@ -1,8 +1,5 @@
 -- After i templates what is left to fill leads to the same end (Turn); the rest of n falls.
-use Prim.Native.Nat.{◌-◌}
-use borrow.Author.Rules.{rules}
-use Rattle.text.specs.Cursors.{cursor_of}
-use Rattle.reader.proofs.Entries.{Turn, turn_first, turn_next, turn_last}
+use Rattle.reader.proofs.Entries.{turn_first, turn_next, turn_last}
 use Rattle.reader.proofs.read_entries.Goals as goal
 
 pub loop-i-init : goal.loop-i-init

@@ -1,7 +1,6 @@
 use Prim.Native.Nat.{◌-◌}
-use borrow.Author.Rules.{rules}
 use Rattle.text.specs.Cursors.{cursor_of}
-use Rattle.reader.proofs.Entries.{Turn, turn_first, turn_next, turn_last}
+use Rattle.reader.proofs.Entries.{Turn}
 use Rattle.reader.proofs.read_entries.Given as goal
 
 abbrev pub invariant-loop-i : goal.invariant-loop-i

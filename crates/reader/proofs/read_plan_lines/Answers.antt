@@ -1,6 +1,5 @@
 -- The two counts, then the templates; a count that was read is at most 64.
 use Rattle.reader.proofs.Gathered.{plan_gathered}
-use borrow.Author.Rules.{rules}
 use Rattle.reader.proofs.read_plan_lines.Goals as goal
 
 pub returns : goal.returns

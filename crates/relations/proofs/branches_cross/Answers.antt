@@ -1,5 +1,4 @@
 -- `relations::branches_cross`: both searches are made, and both assignments asked.
-use borrow.Author.Rules.{rules}
 use Rattle.relations.proofs.Steps.{branches_cross_is}
 use Rattle.relations.proofs.branches_cross.Goals as goal
 

@@ -1,5 +1,4 @@
 -- `relations::crosses` is the test of `crosses` with each of its four parts asked once.
-use borrow.Author.Rules.{rules}
 use Rattle.relations.proofs.Steps.{crosses_is}
 use Rattle.relations.proofs.crosses.Goals as goal
 

@@ -1,6 +1,5 @@
 -- `relations::extend`: where x is not of the templates via it is no way; else the search from x says to which targets it
 -- is.
-use borrow.Author.Rules.{rules}
 use Rattle.relations.proofs.Steps.{extend_none, extend_some}
 use Rattle.relations.proofs.extend.Goals as goal
 

@@ -1,10 +1,5 @@
 -- `relations::find_targets`: the targets have their ways below x. The measure is what is left of 64.
-use Prim.Native.Nat.{◌-◌, ◌≤◌}
-use mathlib.Core.Path.{◌≡◌}
 use native.Mathlib.Omega.{arith}
-use borrow.Author.Rules.{rules}
-use Rattle.route.specs.Search.{targets}
-use Rattle.route.specs.Lent.{laid_out}
 use Rattle.relations.proofs.Steps.{targets_none, targets_more, targets_end}
 use Rattle.relations.proofs.find_targets.Goals as goal
 

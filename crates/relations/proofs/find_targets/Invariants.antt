@@ -1,10 +1,7 @@
 use Prim.Native.Nat.{◌-◌, ◌≤◌}
 use mathlib.Core.Path.{◌≡◌}
-use native.Mathlib.Omega.{arith}
-use borrow.Author.Rules.{rules}
 use Rattle.route.specs.Search.{targets}
 use Rattle.route.specs.Lent.{laid_out}
-use Rattle.relations.proofs.Steps.{targets_none, targets_more, targets_end}
 use Rattle.relations.proofs.find_targets.Given as goal
 
 abbrev pub invariant-loop-x : goal.invariant-loop-x

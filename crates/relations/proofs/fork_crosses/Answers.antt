@@ -1,5 +1,4 @@
 -- `relations::fork_crosses`, by cases: a template that is no fork or not reached, and a fork.
-use borrow.Author.Rules.{rules}
 use Rattle.relations.proofs.Steps.{fork_unreached, fork_reached}
 use Rattle.relations.proofs.fork_crosses.Goals as goal
 

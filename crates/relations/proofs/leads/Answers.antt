@@ -1,5 +1,4 @@
 -- `relations::leads` is the test of `leads` with one search made.
-use borrow.Author.Rules.{rules}
 use Rattle.relations.proofs.Steps.{leads_is}
 use Rattle.relations.proofs.leads.Goals as goal
 

@@ -1,5 +1,4 @@
 -- `relations::only` is `including` for the empty mask.
-use borrow.Author.Rules.{rules}
 use Rattle.relations.proofs.Steps.{only_is}
 use Rattle.relations.proofs.only.Goals as goal
 

@@ -1,5 +1,4 @@
 -- `relations::shares_tag` gathers the parts of `shares_over`, each from one call.
-use borrow.Author.Rules.{rules}
 use Rattle.relations.proofs.Answers.{shares_gathered}
 use Rattle.relations.proofs.shares_tag.Goals as goal
 

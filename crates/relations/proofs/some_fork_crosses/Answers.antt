@@ -1,12 +1,7 @@
 -- `relations::some_fork_crosses`: the loop has asked every template below x. The measure is what is left of 64.
-use Prim.Native.Nat.{◌-◌, ◌≤◌}
-use mathlib.Core.Path.{◌≡◌, sym}
+use mathlib.Core.Path.{sym}
 use native.Mathlib.Omega.{arith}
-use borrow.Author.Rules.{rules}
-use Rattle.lists.specs.Numbers.{any}
 use Rattle.lists.proofs.Every.{any_none}
-use Rattle.route.specs.Search.{fork_crosses}
-use Rattle.route.specs.Lent.{laid_out}
 use Rattle.relations.proofs.Steps.{any_more, any_all}
 use Rattle.relations.proofs.some_fork_crosses.Goals as goal
 

@@ -1,12 +1,8 @@
 use Prim.Native.Nat.{◌-◌, ◌≤◌}
-use mathlib.Core.Path.{◌≡◌, sym}
-use native.Mathlib.Omega.{arith}
-use borrow.Author.Rules.{rules}
+use mathlib.Core.Path.{◌≡◌}
 use Rattle.lists.specs.Numbers.{any}
-use Rattle.lists.proofs.Every.{any_none}
 use Rattle.route.specs.Search.{fork_crosses}
 use Rattle.route.specs.Lent.{laid_out}
-use Rattle.relations.proofs.Steps.{any_more, any_all}
 use Rattle.relations.proofs.some_fork_crosses.Given as goal
 
 abbrev pub invariant-loop-x : goal.invariant-loop-x

@@ -1,5 +1,4 @@
 -- `relations::some_successor_leads`: past the places there is none; below, the two of the layout.
-use borrow.Author.Rules.{rules}
 use Rattle.relations.proofs.Steps.{none_leads, either-leads}
 use Rattle.relations.proofs.some_successor_leads.Goals as goal
 

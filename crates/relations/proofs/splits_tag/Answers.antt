@@ -1,5 +1,4 @@
 -- `relations::splits_tag` gathers the parts of `splits_over`, each from one call.
-use borrow.Author.Rules.{rules}
 use Rattle.relations.proofs.Answers.{splits_gathered}
 use Rattle.relations.proofs.splits_tag.Goals as goal
 

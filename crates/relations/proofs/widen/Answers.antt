@@ -1,5 +1,4 @@
 -- `relations::widen` includes x among the ways.
-use borrow.Author.Rules.{rules}
 use Rattle.relations.proofs.Steps.{widen_is}
 use Rattle.relations.proofs.widen.Goals as goal
 

@@ -1,5 +1,4 @@
 -- The arrays are copied out of the state, lent to the run over the row of its plan, and put back.
-use borrow.Author.Rules.{rules}
 use Rattle.replaying.proofs.Plays.{plays_on}
 use Rattle.replaying.proofs.play.Goals as goal
 

@@ -1,6 +1,5 @@
 -- Not accepted, what start gave is handed on. Accepted, the calls are played on the state that start gave; the promise is
 -- the law of crate promise.
-use borrow.Author.Rules.{rules}
 use Rattle.replaying.proofs.Replays.{replays_not, replays_so}
 use Rattle.std.proofs.Common.{ap}
 use mathlib.Core.Bool.{not}

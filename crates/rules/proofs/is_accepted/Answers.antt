@@ -1,6 +1,5 @@
 -- In each arm the verdict is that arm's variant.
 use mathlib.Core.Path.{sym, ap}
-use borrow.Author.Rules.{rules}
 use Rattle.rules.specs.Broken.{accepted}
 use Rattle.rules.proofs.is_accepted.Goals as goal
 

@@ -1,5 +1,4 @@
 -- By the test of the first.
-use borrow.Author.Rules.{rules}
 use Rattle.rules.proofs.Walk.{or_passed, or_stopped}
 use Rattle.rules.proofs.or_else.Goals as goal
 

@@ -1,7 +1,6 @@
 -- In each arm the answer is that arm's variant.
 use mathlib.Core.Path.{sym, ap}
 use Rattle.machine.specs.State.{code_of}
-use borrow.Author.Rules.{rules}
 use Rattle.running.proofs.code_of.Goals as goal
 
 pub returns-in-Done : goal.returns-in-Done

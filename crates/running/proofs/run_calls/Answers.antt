@@ -2,9 +2,7 @@
 -- The calls that are left grow fewer.
 use Prim.Native.Nat.{◌-◌}
 use borrow.Author.Rules.{rules}
-use Rattle.planrow.specs.Lookup.{plan_for}
-use Rattle.playback.specs.Running.{memory}
-use Rattle.running.proofs.Runs.{Stands, stands_none, stands_on, played}
+use Rattle.running.proofs.Runs.{stands_none, stands_on, played}
 use Rattle.running.proofs.run_calls.Goals as goal
 
 pub loop-i-init : goal.loop-i-init

@@ -1,8 +1,7 @@
 use Prim.Native.Nat.{◌-◌}
-use borrow.Author.Rules.{rules}
 use Rattle.planrow.specs.Lookup.{plan_for}
 use Rattle.playback.specs.Running.{memory}
-use Rattle.running.proofs.Runs.{Stands, stands_none, stands_on, played}
+use Rattle.running.proofs.Runs.{Stands}
 use Rattle.running.proofs.run_calls.Given as goal
 
 abbrev pub invariant-loop-i : goal.invariant-loop-i

@@ -1,8 +1,6 @@
 -- So far what is kept is in no neg of a template below x outside declass.
-use Prim.Native.Nat.{◌-◌}
 use native.Mathlib.Omega.{arith}
-use Rattle.secrecy.proofs.Wearing.{KeptSoFar, kept_start, kept_room, kept_place, kept_more, kept_end}
-use borrow.Author.Rules.{rules}
+use Rattle.secrecy.proofs.Wearing.{kept_start, kept_room, kept_place, kept_more, kept_end}
 use Rattle.secrecy.proofs.find_kept.Goals as goal
 
 pub loop-x-init : goal.loop-x-init

@@ -1,7 +1,6 @@
 -- One law for each way out.
 use borrow.Author.Tests.{not-true, not-false}
 use Rattle.secrecy.proofs.Serving.{serves_lost, serves_unworn, serves_apart}
-use borrow.Author.Rules.{rules}
 use Rattle.secrecy.proofs.identifier_serves.Goals as goal
 
 pub returns-then-not-contains_u32 : goal.returns-then-not-contains_u32

@@ -1,6 +1,5 @@
 -- By the mask of declass.
 use Rattle.secrecy.proofs.Wearing.{keep_whole, keep_less}
-use borrow.Author.Rules.{rules}
 use Rattle.secrecy.proofs.keep.Goals as goal
 
 pub returns-then-contains_u64 : goal.returns-then-contains_u64

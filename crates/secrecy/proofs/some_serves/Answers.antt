@@ -1,9 +1,6 @@
 -- So far none serves.
-use Prim.Native.Nat.{◌-◌}
 use native.Mathlib.Omega.{arith}
-use Rattle.secrecy.specs.Lent.{joined}
-use Rattle.secrecy.proofs.Serving.{NoneServes, none_start, none_room, none_more, one_serves, none_serves}
-use borrow.Author.Rules.{rules}
+use Rattle.secrecy.proofs.Serving.{none_start, none_room, none_more, one_serves, none_serves}
 use Rattle.secrecy.proofs.some_serves.Goals as goal
 
 pub loop-t-init : goal.loop-t-init

@@ -1,8 +1,6 @@
 use Prim.Native.Nat.{◌-◌}
-use native.Mathlib.Omega.{arith}
 use Rattle.secrecy.specs.Lent.{joined}
-use Rattle.secrecy.proofs.Serving.{NoneServes, none_start, none_room, none_more, one_serves, none_serves}
-use borrow.Author.Rules.{rules}
+use Rattle.secrecy.proofs.Serving.{NoneServes}
 use Rattle.secrecy.proofs.some_serves.Given as goal
 
 abbrev pub invariant-loop-t : goal.invariant-loop-t

@@ -1,7 +1,6 @@
 -- Of the judge's own verdict, whose part lies in its text.
 use Rattle.showing.proofs.Parts.{judged_bytes}
 use Rattle.showing.proofs.Inside.{judged_place}
-use borrow.Author.Rules.{rules}
 use Rattle.showing.proofs.show.Goals as goal
 
 pub returns : goal.returns

@@ -1,6 +1,5 @@
 -- The bytes between the numbers, of the text that they name, where they stand in it.
 use Rattle.showing.proofs.Parts.{bytes-plan, bytes-policy, lies_plan, lies_policy}
-use borrow.Author.Rules.{rules}
 use Rattle.showing.proofs.show_verdict.Goals as goal
 
 pub returns-in-Plan : goal.returns-in-Plan

@@ -1,5 +1,4 @@
 -- The parent's tags are copied before it goes; each child then comes or not.
-use Rattle.std.proofs.Common.{rules}
 use Rattle.spawning.proofs.Moves.{advanced}
 use Rattle.spawning.proofs.advance.Goals as goal
 

@@ -1,9 +1,7 @@
 -- The blank template, 64 times.
 use mathlib.Core.Path.{ap}
 use lib.ListN.{replicate}
-use borrow.Author.Rules.{rules}
 use Rattle.plan.specs.declared.Template.{Template}
-use Rattle.machine.specs.State.{blank_state}
 use Rattle.starting.proofs.blank_state.Goals as goal
 
 pub returns : goal.returns

@@ -1,9 +1,7 @@
 -- The labels are those of the template at 0.
 use mathlib.Core.Path.{ap}
 use lib.ListN.{replicate}
-use borrow.Author.Rules.{rules}
 use Rattle.plan.specs.declared.Template.{Template}
-use Rattle.machine.specs.State.{root_state}
 use Rattle.starting.proofs.root_state.Goals as goal
 
 pub returns : goal.returns

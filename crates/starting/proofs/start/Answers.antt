@@ -1,5 +1,4 @@
 -- The verdict is the judge's. Not accepted, the state is blank; accepted, it is the root's, of the plan that was read.
-use borrow.Author.Rules.{rules}
 use Rattle.starting.proofs.Starting.{started_not, started_so}
 use Rattle.std.proofs.Common.{ap}
 use mathlib.Core.Bool.{not}

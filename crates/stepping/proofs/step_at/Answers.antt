@@ -1,5 +1,4 @@
 -- The templates looked up are the plan's, their numbers being below N; then a refusal by its number, or the move.
-use borrow.Author.Rules.{rules}
 use Rattle.stepping.proofs.Room.{room_left, next_fits, live_fits}
 use Rattle.stepping.proofs.Steps.{place_wide, place_refused, place_done, some_live, place_word}
 use Rattle.stepping.proofs.step_at.Goals as goal

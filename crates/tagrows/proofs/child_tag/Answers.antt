@@ -1,6 +1,5 @@
 -- The definition, by the mask.
 use mathlib.Core.Path.{sym, ◌∙◌}
-use borrow.Author.Rules.{rules}
 use Rattle.tagrows.specs.Rows.{child_tag}
 use Rattle.tagrows.proofs.child_tag.Goals as goal
 

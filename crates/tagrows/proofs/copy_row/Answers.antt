@@ -1,5 +1,4 @@
 -- The last row begins at 4064.
-use borrow.Author.Rules.{rules}
 use Rattle.tagrows.proofs.copy_row.Goals as goal
 
 pub returns : goal.returns

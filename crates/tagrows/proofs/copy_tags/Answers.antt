@@ -1,8 +1,8 @@
 -- The row is filled up to the place that the loop has reached.
-use Prim.Native.Nat.{ℕ, ◌+◌, ◌-◌, ◌≤◌, ◌<◌}
+use Prim.Native.Nat.{◌-◌}
 use mathlib.Core.Path.{◌≡◌, refl}
 use native.Mathlib.Omega.{arith}
-use lib.ListN.{get_or, length, length-set}
+use lib.ListN.{length-set}
 use borrow.Author.Count.{below_none}
 use borrow.Author.Rules.{rules}
 use Rattle.lists.proofs.Tabulate.{filled_more, filled_all}

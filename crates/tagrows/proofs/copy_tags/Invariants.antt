@@ -1,10 +1,6 @@
 use Prim.Native.Nat.{ℕ, ◌+◌, ◌-◌, ◌≤◌, ◌<◌}
-use mathlib.Core.Path.{◌≡◌, refl}
-use native.Mathlib.Omega.{arith}
-use lib.ListN.{get_or, length, length-set}
-use borrow.Author.Count.{below_none}
-use borrow.Author.Rules.{rules}
-use Rattle.lists.proofs.Tabulate.{filled_more, filled_all}
+use mathlib.Core.Path.{◌≡◌}
+use lib.ListN.{get_or, length}
 use Rattle.tagrows.proofs.copy_tags.Given as goal
 
 abbrev pub invariant-loop-i : goal.invariant-loop-i

@@ -1,5 +1,4 @@
 -- The product of two numbers of 32 bits has at most 64.
-use borrow.Author.Rules.{rules}
 use Rattle.tagrows.proofs.Rows.{product_fits}
 use Rattle.tagrows.proofs.row_start.Goals as goal
 

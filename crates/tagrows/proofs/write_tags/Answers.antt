@@ -1,10 +1,9 @@
 -- The row is written up to the place that the loop has reached.
-use Prim.Native.Nat.{ℕ, ◌-◌, ◌≤◌}
+use Prim.Native.Nat.{◌-◌}
 use mathlib.Core.Path.{◌≡◌, refl}
 use native.Mathlib.Omega.{arith}
-use lib.ListN.{get_or, length, length-set}
+use lib.ListN.{length-set}
 use borrow.Author.Rules.{rules}
-use Rattle.lists.specs.Writes.{written}
 use Rattle.lists.proofs.Written.{written_none, written_more}
 use Rattle.tagrows.specs.Rows.{child_tag}
 use Rattle.tagrows.proofs.write_tags.Goals as goal

@@ -1,10 +1,7 @@
 use Prim.Native.Nat.{ℕ, ◌-◌, ◌≤◌}
-use mathlib.Core.Path.{◌≡◌, refl}
-use native.Mathlib.Omega.{arith}
-use lib.ListN.{get_or, length, length-set}
-use borrow.Author.Rules.{rules}
+use mathlib.Core.Path.{◌≡◌}
+use lib.ListN.{get_or, length}
 use Rattle.lists.specs.Writes.{written}
-use Rattle.lists.proofs.Written.{written_none, written_more}
 use Rattle.tagrows.specs.Rows.{child_tag}
 use Rattle.tagrows.proofs.write_tags.Given as goal
 

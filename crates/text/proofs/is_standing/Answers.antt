@@ -1,6 +1,5 @@
 -- The three tests, in turn.
 use Rattle.text.proofs.Lines.{stands_long, stands_past, stands-line}
-use borrow.Author.Rules.{rules}
 use Rattle.text.proofs.is_standing.Goals as goal
 
 pub returns-then-text-gt-LONGEST : goal.returns-then-text-gt-LONGEST

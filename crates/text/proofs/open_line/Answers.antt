@@ -1,6 +1,5 @@
 -- A position that stopped stays; one that is none of the text has no line; on a line, the span is counted from its start.
 use Rattle.text.proofs.Lines.{stopped_open, closed-within, lost_open, stands_at, missing_open, at_open, at_within, start_fits, end_fits}
-use borrow.Author.Rules.{rules}
 use Rattle.text.proofs.open_line.Goals as goal
 
 pub returns-then-not-is_standing : goal.returns-then-not-is_standing

@@ -1,6 +1,5 @@
 -- The line ends before byte 10, and the key begins it.
 use Rattle.text.proofs.Lines.{span_none, span_at, span_other}
-use borrow.Author.Rules.{rules}
 use Rattle.text.proofs.read_field.Goals as goal
 
 pub returns-then-rest-end : goal.returns-then-rest-end

@@ -1,6 +1,5 @@
 -- A plan that reads is in range.
 use Rattle.verdict.proofs.Ways.{plan_range, plan_complete, plan_refused}
-use borrow.Author.Rules.{rules}
 use Rattle.verdict.proofs.judge.Goals as goal
 
 pub judge_over-requires : goal.judge_over-requires

@@ -1,6 +1,5 @@
 -- By what the policy's reading answered.
 use Rattle.verdict.proofs.Ways.{policy_complete, policy_refused}
-use borrow.Author.Rules.{rules}
 use Rattle.verdict.proofs.judge_over.Goals as goal
 
 pub returns-in-Complete : goal.returns-in-Complete

@@ -1,7 +1,6 @@
 -- The first that is not accepted.
 use borrow.Author.Tests.{not-true, not-false}
 use Rattle.verdict.proofs.Ways.{stopped_11, stopped_edges, passed_edges}
-use borrow.Author.Rules.{rules}
 use Rattle.verdict.proofs.judge_read.Goals as goal
 
 pub returns-then-not-is_accepted : goal.returns-then-not-is_accepted

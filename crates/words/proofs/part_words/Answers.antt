@@ -1,6 +1,5 @@
 -- The number of its text, then where it lies.
 use Rattle.words.proofs.Words.{part-words}
-use borrow.Author.Rules.{rules}
 use Rattle.words.proofs.part_words.Goals as goal
 
 pub returns : goal.returns

@@ -1,7 +1,6 @@
 -- By the text.
 use mathlib.Core.Path.{sym, ap}
 use Rattle.rules.specs.Judge.{text_number}
-use borrow.Author.Rules.{rules}
 use Rattle.words.proofs.text_number.Goals as goal
 
 pub returns-in-Plan : goal.returns-in-Plan

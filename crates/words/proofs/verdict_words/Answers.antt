@@ -2,7 +2,6 @@
 use mathlib.Core.Path.{sym, ap}
 use Rattle.rules.specs.Judge.{numbers_of}
 use Rattle.words.proofs.Words.{broken_words, unread-words}
-use borrow.Author.Rules.{rules}
 use Rattle.words.proofs.verdict_words.Goals as goal
 
 pub returns-in-Accepted : goal.returns-in-Accepted
