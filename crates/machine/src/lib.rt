@@ -6,7 +6,7 @@ use rules::Verdict;
 
 // The plan, the next serial and the live processes at the first `live` places; the places past them carry no meaning.
 // Tag i of the process at place p stands at p * M + i, M being the plan's number of identifiers.
-#[derive(Drop)]
+#[derive(Clone, Copy)]
 pub struct State {
     pub plan: Plan,
     pub next: u32,
@@ -27,14 +27,14 @@ pub enum Answer {
 }
 
 // What an operation hands back. The state comes first: it then lies as the caller's own does, and is copied less often.
-#[derive(Drop)]
+#[derive(Clone, Copy)]
 pub struct Answered {
     pub state: State,
     pub answer: Answer,
 }
 
 // What start hands back: the judge's verdict, and the state, blank where the verdict is not accepted.
-#[derive(Drop)]
+#[derive(Clone, Copy)]
 pub struct Started {
     pub verdict: Verdict,
     pub state: State,

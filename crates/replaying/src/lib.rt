@@ -9,7 +9,7 @@ use machine::State;
 use rules::Verdict;
 
 // What a list of calls leaves of a state, and how many calls were played. The state comes first, as in machine::Answered.
-#[derive(Drop)]
+#[derive(Clone, Copy)]
 pub struct Ran {
     pub state: State,
     pub count: usize,
@@ -53,7 +53,7 @@ pub fn play<'a>(state: State, calls: &'a [u32], answers: &'a mut [u8]) -> Ran
 
 // What replay hands back: the judge's verdict, how many calls were played, and the state after them, blank where the
 // verdict is not accepted.
-#[derive(Drop)]
+#[derive(Clone, Copy)]
 pub struct Replayed {
     pub verdict: Verdict,
     pub count: usize,

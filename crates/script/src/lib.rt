@@ -14,7 +14,7 @@ fn put(words: &mut [u32], at: usize, word: u32) {
 }
 
 // How many words were written; fault: the line after those calls is none.
-#[derive(Drop)]
+#[derive(Clone, Copy)]
 pub struct Script {
     pub count: usize,
     pub fault: bool,
