@@ -1,5 +1,5 @@
-// The monitor for a program in another language: exported functions over memory that the caller lends. What each promises
-// to a C program stands in include/monitor.h.
+// The monitor over memory that the caller lends. Crate embed_c exports each of these functions to a program in another language;
+// what they promise to a C program stands in include/monitor.h.
 #![tactic(auto)]
 
 ghost use Rattle.std.specs.Prelude.{◌≡◌};
@@ -14,8 +14,7 @@ ghost use Rattle.embed.specs.Embed.{Starts, ReplayedAll};
 use planrow::WORDS;
 
 // Unread, broken or accepted.
-#[unsafe(no_mangle)]
-pub extern "C" fn monitor_judge<'a>(plan: &'a [u8], policy: &'a [u8], words: &'a mut [u32; 5])
+pub fn monitor_judge<'a>(plan: &'a [u8], policy: &'a [u8], words: &'a mut [u32; 5])
     ensures { words.new ≡ numbers_of (judge plan.now policy.now) }
 {
     let verdict = verdict::judge(plan, policy);
@@ -23,8 +22,7 @@ pub extern "C" fn monitor_judge<'a>(plan: &'a [u8], policy: &'a [u8], words: &'a
 }
 
 // Where the part lies that the verdict shows.
-#[unsafe(no_mangle)]
-pub extern "C" fn monitor_locate<'a>(plan: &'a [u8], policy: &'a [u8], words: &'a mut [usize; 3])
+pub fn monitor_locate<'a>(plan: &'a [u8], policy: &'a [u8], words: &'a mut [usize; 3])
     ensures { words.new ≡ part_words (locate plan.now policy.now) }
 {
     let part = showing::locate(plan, policy);
@@ -32,8 +30,7 @@ pub extern "C" fn monitor_locate<'a>(plan: &'a [u8], policy: &'a [u8], words: &'
 }
 
 // Judges both texts; writes the verdict, and the started state, blank where it is not accepted.
-#[unsafe(no_mangle)]
-pub extern "C" fn monitor_start<'a>(
+pub fn monitor_start<'a>(
     plan: &'a [u8],
     policy: &'a [u8],
     words: &'a mut [u32; 5],
@@ -65,8 +62,7 @@ pub extern "C" fn monitor_start<'a>(
 }
 
 // One call: its kind (0 step, 1 send, 2 raise, any other number lower) and its two numbers.
-#[unsafe(no_mangle)]
-pub extern "C" fn monitor_call<'a>(
+pub fn monitor_call<'a>(
     row: &'a [u32; WORDS],
     place: &'a mut [u32; 2],
     serials: &'a mut [u32; 128],
@@ -85,8 +81,7 @@ pub extern "C" fn monitor_call<'a>(
 }
 
 // A list of calls, three words each, run through the lent state; as many as there are words and places for.
-#[unsafe(no_mangle)]
-pub extern "C" fn monitor_run<'a>(
+pub fn monitor_run<'a>(
     row: &'a [u32; WORDS],
     place: &'a mut [u32; 2],
     serials: &'a mut [u32; 128],
@@ -104,8 +99,7 @@ pub extern "C" fn monitor_run<'a>(
 }
 
 // Both texts judged, the box started, and the calls run through it.
-#[unsafe(no_mangle)]
-pub extern "C" fn monitor_replay<'a>(
+pub fn monitor_replay<'a>(
     plan: &'a [u8],
     policy: &'a [u8],
     calls: &'a [u32],
