@@ -10,7 +10,7 @@ use borrow.Author.Tests.{eq-eqb, ne_eqb, leb-true, not-true, not-false}
 use Rattle.lists.specs.Numbers.{every, lowest}
 use Rattle.lists.proofs.Tests.{and_left, and_right}
 use Rattle.lists.proofs.Every.{every_ext}
-use Rattle.lists.proofs.Tabulate.{get_d_tabulate}
+use Rattle.lists.proofs.Tabulate.{get_or-tabulate}
 use Rattle.mask.specs.Mask.{has}
 use Rattle.planrow.specs.Row.{identifiers_in}
 use Rattle.planrow.specs.Lookup.{plan_for}
@@ -48,7 +48,7 @@ module _ (m label : ℕ) (sent : List ℕ) (from receiver : ℕ) (held : List �
   unfolding agree words_from
   agree_parts =
       every_ext m _ _ (λ i h. ap₂ (λ (t u : ℕ). not (has i label) || (has i receiver && eqb t u))
-      (sym (get_d_tabulate m (λ i. get_or sent (from + i) 0) i 0 h)) (sym (get_d_tabulate m (λ i. get_or held (to + i) 0) i 0 h)))
+      (sym (get_or-tabulate m (λ i. get_or sent (from + i) 0) i 0 h)) (sym (get_or-tabulate m (λ i. get_or held (to + i) 0) i 0 h)))
 
   -- n is m as an index, a and b are the answers of `is_within`.
   module _ (n : ℕ) (en : n ≡ m) (a b : Bool) (ea : a ≡ leb (from + n) (length sent)) (eb : b ≡ leb (to + n) (length held)) where

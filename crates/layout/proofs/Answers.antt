@@ -6,7 +6,7 @@ use mathlib.Core.Bool.{Bool, ◌&&◌, ◌||◌}
 use lib.Bits.{bit_and}
 use Rattle.lists.specs.Numbers.{any}
 use Rattle.lists.specs.Joins.{both, either}
-use Rattle.lists.proofs.Tabulate.{get_d_tabulate}
+use Rattle.lists.proofs.Tabulate.{get_or-tabulate}
 use Rattle.mask.specs.Mask.{has}
 use Rattle.plan.specs.declared.Plan.{Plan}
 use Rattle.plan.specs.Plan.{at, successors, creates}
@@ -20,7 +20,7 @@ use Rattle.layout.proofs.Layouts.{reach_laid, targets_laid, forks_laid, down_lai
 module _ (plan : Plan) where
   creators_laid : (t : ℕ) → collect 64 (made_by (creations plan) t) ≡ collect 64 (creates plan t)
   unfolding creations made_by creates
-  creators_laid t = collect_ext 64 _ _ (λ X l. ap (has t) (get_d_tabulate 64 (λ X. (at plan X).creates) X 0 l))
+  creators_laid t = collect_ext 64 _ _ (λ X l. ap (has t) (get_or-tabulate 64 (λ X. (at plan X).creates) X 0 l))
 
   abbrev laid : Plan
   laid = laid_out (firsts plan) (seconds plan)

@@ -10,7 +10,7 @@ use Rattle.lists.specs.Numbers.{any}
 use Rattle.lists.specs.Joins.{both, either}
 use Rattle.lists.proofs.Tests.{bool?, passes_fails}
 use Rattle.lists.proofs.Every.{any_ext, any_of}
-use Rattle.lists.proofs.Tabulate.{get_d_tabulate}
+use Rattle.lists.proofs.Tabulate.{get_or-tabulate}
 use Rattle.mask.specs.Mask.{has, plus}
 use Rattle.mask.proofs.Items.{has_and, has_none, plus_cases}
 use Rattle.plan.specs.declared.Form.{Form}
@@ -109,7 +109,7 @@ module _ (plan : Plan) where
   unfolding firsts seconds
   laid_is X l =
       laid_form (firsts plan) (seconds plan) X l
-      ∙ ap₂ Both (get_d_tabulate 64 (λ X. first_of (at plan X).form) X 0 l) (get_d_tabulate 64 (λ X. second_of (at plan X).form) X 0 l)
+      ∙ ap₂ Both (get_or-tabulate 64 (λ X. first_of (at plan X).form) X 0 l) (get_or-tabulate 64 (λ X. second_of (at plan X).form) X 0 l)
 
   enter_laid : (barred : ℕ → Bool) (depth seen X : ℕ) → enter laid barred depth seen X ≡ enter plan barred depth seen X
   unfolding enter if_so successors

@@ -18,11 +18,11 @@ module _ {A : Type 0} where
   length-tabulate zero f = refl
   length-tabulate (suc n) f = ap suc (length-tabulate n (λ i. f (suc i)))
 
-  pub get_d_tabulate : (n : ℕ) (f : ℕ → A) (i : ℕ) (d : A) → i < n → get_or (tabulate n f) i d ≡ f i
+  pub get_or-tabulate : (n : ℕ) (f : ℕ → A) (i : ℕ) (d : A) → i < n → get_or (tabulate n f) i d ≡ f i
   unfolding tabulate
-  get_d_tabulate zero f i d h = absurd (not-suc-le-zero h)
-  get_d_tabulate (suc n) f zero d h = refl
-  get_d_tabulate (suc n) f (suc i) d h = get_d_tabulate n (λ j. f (suc j)) i d (le_of_suc-le-suc h)
+  get_or-tabulate zero f i d h = absurd (not-suc-le-zero h)
+  get_or-tabulate (suc n) f zero d h = refl
+  get_or-tabulate (suc n) f (suc i) d h = get_or-tabulate n (λ j. f (suc j)) i d (le_of_suc-le-suc h)
 
   -- At its end and past it the default stands.
   pub get_or-tabulate_past : (n : ℕ) (f : ℕ → A) (i : ℕ) (d : A) → n ≤ i → get_or (tabulate n f) i d ≡ d
@@ -45,7 +45,7 @@ module _ {A : Type 0} where
   pub tabulate_get_or : (n : ℕ) (l : List A) (d : A) → length l ≡ n → tabulate n (λ i. get_or l i d) ≡ l
   tabulate_get_or n l d e =
       ext_get_or d (tabulate n (λ i. get_or l i d)) l (length-tabulate n (λ i. get_or l i d) ∙ sym e)
-      (λ i h. get_d_tabulate n (λ i. get_or l i d) i d (subst (λ (k : ℕ). i < k) (length-tabulate n (λ i. get_or l i d)) h))
+      (λ i h. get_or-tabulate n (λ i. get_or l i d) i d (subst (λ (k : ℕ). i < k) (length-tabulate n (λ i. get_or l i d)) h))
 
   -- What is true of each element is true of the function below n.
   pub all_tabulate : (p : A → Bool) (n : ℕ) (f : ℕ → A) → all p (tabulate n f) ≡ every n (λ i. p (f i))
@@ -73,4 +73,4 @@ filled_more f xs i v l q e j h =
 pub filled_all : (f : ℕ → ℕ) (xs : List ℕ) (n : ℕ) → length xs ≡ n → ((j : ℕ) → j < n → get_or xs j 0 ≡ f j) → xs ≡ tabulate n f
 filled_all f xs n q e =
     ext_get_or 0 xs (tabulate n f) (q ∙ sym (length-tabulate n f))
-    (λ i h. let h' : i < n = omega arith in e i h' ∙ sym (get_d_tabulate n f i 0 h'))
+    (λ i h. let h' : i < n = omega arith in e i h' ∙ sym (get_or-tabulate n f i 0 h'))

@@ -16,7 +16,7 @@ use borrow.Author.Tests.{ltb-true, eqb-true, eq-eqb, ne_eqb}
 use Rattle.lists.specs.Numbers.{every, lowest, tabulate}
 use Rattle.lists.proofs.Tests.{lt_or_le, passes_fails}
 use Rattle.lists.proofs.Every.{every_at, every_ext}
-use Rattle.lists.proofs.Tabulate.{length-tabulate, get_d_tabulate, tabulate_ext, map-tabulate}
+use Rattle.lists.proofs.Tabulate.{length-tabulate, get_or-tabulate, tabulate_ext, map-tabulate}
 use Rattle.machine.specs.Machine.{Process, rising, find, remove, relabel, relabelled}
 
 -- ---- find
@@ -60,7 +60,7 @@ rising_places n f =
     ap rising (map-tabulate (λ p. p.serial) n f)
     ∙ ap (λ (k : ℕ). every (k - 1) (λ i. ltb (get_or xs i 0) (get_or xs (i + 1) 0))) (length-tabulate n x)
     ∙ every_ext (n - 1) (λ i. ltb (get_or xs i 0) (get_or xs (i + 1) 0)) (λ i. ltb (x i) (x (i + 1)))
-    (λ i h. ap₂ ltb (get_d_tabulate n x i 0 (omega arith)) (get_d_tabulate n x (i + 1) 0 (omega arith)))
+    (λ i h. ap₂ ltb (get_or-tabulate n x i 0 (omega arith)) (get_or-tabulate n x (i + 1) 0 (omega arith)))
   where
     x : ℕ → ℕ
     x i = (f i).serial

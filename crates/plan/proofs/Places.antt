@@ -1,5 +1,4 @@
--- Past the places of a plan's and a policy's arrays stands what is blank. The length is given as the checker hands it
--- over, of the list seen through a function.
+-- Past the places of a plan's and a policy's arrays stands what is blank.
 use Prim.Native.Nat.{ℕ, ◌≤◌}
 use mathlib.Core.Path.{◌≡◌, sym}
 use lib.ListN.{length}

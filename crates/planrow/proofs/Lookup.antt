@@ -8,7 +8,7 @@ use native.Mathlib.Omega.{arith}
 use lib.ListN.{get_or}
 use lib.Dec.{ltb}
 use borrow.Author.Tests.{lt-ltb, le-ltb, not-true, not-false}
-use Rattle.lists.proofs.Tabulate.{get_d_tabulate}
+use Rattle.lists.proofs.Tabulate.{get_or-tabulate}
 use Rattle.plan.specs.declared.Template.{Template}
 use Rattle.plan.specs.declared.Plan.{Plan}
 use Rattle.plan.specs.Plan.{blank, at}
@@ -81,7 +81,7 @@ module _ (row : List ℕ) (e : is_plan row ≡ true) where
   unfolding at plan_in
   stands_at X h =
       ap (λ (p : Plan). get_or p.templates X blank) stands_so
-      ∙ get_d_tabulate 64 (λ X. cond (ltb X (count_in row)) (template_in row X) blank) X blank (let q = plan_count row e in omega arith)
+      ∙ get_or-tabulate 64 (λ X. cond (ltb X (count_in row)) (template_in row X) blank) X blank (let q = plan_count row e in omega arith)
       ∙ ap (λ (b : Bool). cond b (template_in row X) blank) (lt-ltb X (count_in row) h)
 
   pub looked_up : (X : ℕ) → X < count_in row → template_at row X ≡ at (plan_for row) X

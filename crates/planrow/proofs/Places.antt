@@ -8,7 +8,7 @@ use lib.Seq.{get_or-append-add}
 use lib.Dec.{ltb}
 use borrow.Author.Tests.{lt-ltb, le-ltb}
 use Rattle.lists.specs.Numbers.{tabulate}
-use Rattle.lists.proofs.Tabulate.{length-tabulate, get_d_tabulate}
+use Rattle.lists.proofs.Tabulate.{length-tabulate, get_or-tabulate}
 use Rattle.plan.specs.declared.Plan.{Plan}
 use Rattle.plan.specs.Plan.{at}
 use Rattle.planrow.specs.Row.{header, width, words, begins, count_in, identifiers_in, word_at, words_of, word_in, header_of, row_of_plan}
@@ -51,7 +51,7 @@ module _ (plan : Plan) where
   row_behind j h =
       ap (λ (n : ℕ). get_or (row_of_plan plan) (n + j) 0) (sym length-header)
       ∙ get_or-append-add (header_of plan) _ j 0
-      ∙ get_d_tabulate (width * 64) (word_in plan) j 0 h
+      ∙ get_or-tabulate (width * 64) (word_in plan) j 0 h
 
   pub row_identifiers : identifiers_in (row_of_plan plan) ≡ plan.identifiers
   unfolding identifiers_in header_of

@@ -11,7 +11,7 @@ use lib.Seq.{ext_get_or}
 use lib.Pow.{pow_mono}
 use borrow.Author.Tests.{le-leb}
 use Rattle.lists.specs.Numbers.{tabulate}
-use Rattle.lists.proofs.{Tests.{lt_or_le}, Tabulate.{length-tabulate, get_d_tabulate}}
+use Rattle.lists.proofs.{Tests.{lt_or_le}, Tabulate.{length-tabulate, get_or-tabulate}}
 use Rattle.text.specs.Reading.{longest, Cursor, on, stopped, Reader, closed, checked, if_complete}
 use Rattle.text.specs.declared.Reading.TheVariants.{Complete, Refused}
 use Rattle.reader.proofs.{Rows.{row_full, row_past}, Live.{checked_live}}
@@ -74,7 +74,7 @@ row_whole {A} d l n size len h blank =
     at : (i : ℕ) → (i < n) ⊎ (n ≤ i) → get_or row i d ≡ get_or l i d
     at i (inl g) =
         get_or-append first (replicate (size - n) d) d i (omega (arith, length-tabulate n (λ i. get_or l i d)))
-        ∙ get_d_tabulate n (λ i. get_or l i d) i d g
+        ∙ get_or-tabulate n (λ i. get_or l i d) i d g
     at i (inr g) = row_past first (size - n) i d (omega (arith, length-tabulate n (λ i. get_or l i d))) ∙ sym (blank i g)
 
 -- ---- masks in range

@@ -11,7 +11,7 @@ use mathlib.Core.Option.{Option, some}
 use mathlib.Core.Bool.{Bool, true, false, cond, true≢false}
 use Rattle.lists.specs.Numbers.{put}
 use Rattle.lists.proofs.Put.{put_all, put_all₂, put_two}
-use Rattle.lists.proofs.Tabulate.{get_d_tabulate}
+use Rattle.lists.proofs.Tabulate.{get_or-tabulate}
 use Rattle.lists.proofs.Tests.{or_left}
 use Rattle.mask.specs.Mask.{has}
 use Rattle.plan.specs.declared.Plan.{Plan}
@@ -79,7 +79,7 @@ unfolding child tag wearable
 child_fits plan c Y above p knows tags = record {
   live = refl;
   template = refl;
-  tags = λ i h. get_d_tabulate plan.identifiers (λ j. cond (creates plan j Y) c (tag p j)) i 0 h ∙ ap (cond (creates plan i Y) c) (tags i h);
+  tags = λ i h. get_or-tabulate plan.identifiers (λ j. cond (creates plan j Y) c (tag p j)) i 0 h ∙ ap (cond (creates plan i Y) c) (tags i h);
   within = λ i h e. or_left (has i (at plan Y).lab) _ e;
   unmoved = λ e i h. refl;
 }

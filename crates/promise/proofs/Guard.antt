@@ -7,7 +7,7 @@ use mathlib.Core.Logic.{◌≢◌, ◌⊎◌, inl, inr}
 use mathlib.Core.List.{List}
 use mathlib.Core.Bool.{Bool, true, false, cond, true≢false}
 use Rattle.lists.proofs.Put.{same?}
-use Rattle.lists.proofs.Tabulate.{get_d_tabulate}
+use Rattle.lists.proofs.Tabulate.{get_or-tabulate}
 use Rattle.mask.specs.Mask.{has}
 use Rattle.plan.specs.declared.Plan.{Plan}
 use Rattle.plan.specs.declared.Assertion.{Assertion}
@@ -55,7 +55,7 @@ module _ (plan : Plan) (range : InRange plan) (a : Assertion) (t : ℕ) (below :
   unfolding child tag creates
   safe_child c Y p source outside passes safe = (
     stays plan p.label p.template Y passes t below safe.0 (lasts plan range a t serves Y outside),
-    get_d_tabulate plan.identifiers (λ j. cond (creates plan j Y) c (tag p j)) t 0 below
+    get_or-tabulate plan.identifiers (λ j. cond (creates plan j Y) c (tag p j)) t 0 below
         ∙ (ap (λ (b : Bool). cond b c (tag p t)) (unmade plan p.label p.template Y passes t below safe.0) ∙ safe.1),
   )
 

@@ -10,7 +10,7 @@ use borrow.Author.Tests.{eqb-true}
 use Rattle.lists.specs.Numbers.{put}
 use Rattle.lists.proofs.Put.{put_all, put_all₂, put_two}
 use Rattle.lists.proofs.Tests.{or_left}
-use Rattle.lists.proofs.Tabulate.{get_d_tabulate}
+use Rattle.lists.proofs.Tabulate.{get_or-tabulate}
 use Rattle.mask.specs.Mask.{has}
 use Rattle.plan.specs.declared.Plan.{Plan}
 use Rattle.plan.specs.Plan.{at, creates}
@@ -36,7 +36,7 @@ unfolding root tag wearable
 root_fits plan = record {
   live = refl;
   template = refl;
-  tags = λ i h. get_d_tabulate plan.identifiers (λ j. 0) i 0 h ∙ zero (creates plan i 0);
+  tags = λ i h. get_or-tabulate plan.identifiers (λ j. 0) i 0 h ∙ zero (creates plan i 0);
   within = λ i h e. or_left (has i (at plan 0).lab) _ e;
   unmoved = λ e i h. refl;
 }

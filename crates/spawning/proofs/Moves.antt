@@ -3,7 +3,7 @@ use Rattle.std.proofs.Common.{◌≡◌, ℕ, ◌+◌, ◌-◌, ◌*◌, ◌%◌
 use borrow.Author.Tests.{lt-leb}
 use Rattle.lists.specs.Numbers.{tabulate}
 use Rattle.lists.proofs.Tests.{lt_or_le, passes_fails}
-use Rattle.lists.proofs.Tabulate.{get_d_tabulate, tabulate_ext, tabulate_snoc}
+use Rattle.lists.proofs.Tabulate.{get_or-tabulate, tabulate_ext, tabulate_snoc}
 use Rattle.plan.specs.declared.Template.{Template}
 use Rattle.machine.specs.Machine.{Process}
 use Rattle.machine.specs.State.{Cells, words_from, placed, processes_of}
@@ -140,8 +140,8 @@ same_newborn M k from serial Y lab creates row gs few ef er =
     ap (λ (ts : List ℕ). record { serial = serial; template = Y; label = lab; tags = ts })
     (tabulate_ext M (λ i. child_tag serial creates (get_or row i 0) i) (λ i. child_tag serial creates (get_or (tabulate M (λ i. get_or gs (k * M + i) 0)) i 0) i) (λ i h.
     ap (λ (x : ℕ). child_tag serial creates x i)
-    (ap (λ (l : List ℕ). get_or l i 0) er ∙ get_d_tabulate 32 (λ i. get_or gs (from + i) 0) i 0 (omega arith) ∙ ap (λ (f : ℕ). get_or gs (f + i) 0) ef
-    ∙ sym (get_d_tabulate M (λ i. get_or gs (k * M + i) 0) i 0 h))))
+    (ap (λ (l : List ℕ). get_or l i 0) er ∙ get_or-tabulate 32 (λ i. get_or gs (from + i) 0) i 0 (omega arith) ∙ ap (λ (f : ℕ). get_or gs (f + i) 0) ef
+    ∙ sym (get_or-tabulate M (λ i. get_or gs (k * M + i) 0) i 0 h))))
 
 -- The last of several children: gs are the tags before anything moved.
 come : (M k from serial Y lab creates : ℕ) (row xs ts ls gs : List ℕ) (d e : Cells) (n : ℕ) (ps : List Process) → k < 128 → M ≤ 32 → from ≡ k * M
