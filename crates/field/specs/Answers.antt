@@ -1,10 +1,25 @@
 -- What the answers of the code of crate field stand for: a field's value, or the number of the refusal.
 -- Not to be believed: no contract above this crate names them.
-use Rattle.std.specs.Prelude.{ℕ, Bool, ◌&&◌, List, leb, ltb, length}
+use Rattle.std.specs.Prelude.{ℕ, Bool, ◌&&◌, List, leb, ltb, length, Result, Ok, Err}
 use Rattle.lists.specs.Numbers.{all}
 use Rattle.field.specs.Fields.{Field, is, bad, name_byte}
+use Rattle.field.specs.declared.Refusal.{Refusal}
+use Rattle.field.specs.declared.Refusal.TheVariants.{TooLong, Layout, Range, Beyond, Stood, Misplaced}
 use Rattle.field.specs.declared.NumberField.{NumberField}
 use Rattle.field.specs.declared.NumberField.TheVariants.{Is, Bad}
+
+-- Document 01's number of a refusal.
+abbrev pub numbered : Refusal → ℕ
+numbered TooLong = 1
+numbered Layout = 2
+numbered Range = 3
+numbered Beyond = 4
+numbered Stood = 5
+numbered Misplaced = 6
+
+abbrev pub field_of : {A : Type 0} → Result A Refusal → Field A
+field_of (Ok v) = is v
+field_of (Err refusal) = bad (numbered refusal)
 
 abbrev pub number_of : NumberField → Field ℕ
 number_of (Is v) = is v

@@ -5,7 +5,7 @@
 ghost use Rattle.std.specs.Prelude.{◌≡◌, ◌≤◌, ◌^◌, length, ltb};
 ghost use Rattle.lists.specs.Numbers.{all};
 ghost use Rattle.field.specs.Fields.{digit as digit_of, digits, decimal, number, mask as mask_of, name_byte, misplaced, declass as declass_of};
-ghost use Rattle.field.specs.Answers.{number_of, is_name};
+ghost use Rattle.field.specs.Answers.{numbered, number_of, is_name};
 
 use plan::Kind;
 
@@ -24,6 +24,38 @@ pub const STOOD: u8 = 5;
 
 // A declass that its kind forbids.
 pub const MISPLACED: u8 = 6;
+
+// Why a text is refused: document 01's numbers 1 to 6, in this order. The last five are those of a line.
+#[derive(Clone, Copy, PartialEq, Eq)]
+pub enum Refusal {
+    // The text is too long.
+    TooLong,
+    // Not of its line's layout.
+    Layout,
+    // A count or template number out of range.
+    Range,
+    // A mask that names an identifier or template that the plan lacks.
+    Beyond,
+    // A name that stood earlier.
+    Stood,
+    // A declass that its kind forbids.
+    Misplaced,
+}
+
+impl From<Refusal> for u8 {
+    ghost from_gives = { λ refusal number. number ≡ numbered refusal };
+
+    fn from(refusal: Refusal) -> u8 {
+        match refusal {
+            Refusal::TooLong => 1,
+            Refusal::Layout => 2,
+            Refusal::Range => 3,
+            Refusal::Beyond => 4,
+            Refusal::Stood => 5,
+            Refusal::Misplaced => 6,
+        }
+    }
+}
 
 // A field of a number or a mask.
 #[derive(Clone, Copy)]
