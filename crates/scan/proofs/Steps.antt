@@ -6,6 +6,7 @@ use lib.Pointwise.{pointwise, bytes_decides}
 use Rattle.std.proofs.lemmas.List.{length-reverse, reverse-reverse}
 use Rattle.std.specs.List.{position_or_len, list_all, zip}
 use Rattle.std.specs.Cmp.{nat_eq_equiv}
+use Rattle.std.specs.Cmp.Lexicographic.{nat_list_eq_equiv}
 use borrow.Author.Tests.{ltb-false}
 use Rattle.std.proofs.lemmas.List.Recursion.{is_position_or_len}
 use Rattle.scan.specs.Bytes.{before, starts_with, same}
@@ -47,6 +48,10 @@ unfolding starts_with
 starts_pointwise [] s = refl
 starts_pointwise (k ∷ key) [] = refl
 starts_pointwise (k ∷ key) (x ∷ s) = rw (starts_pointwise key s, nat_eq_equiv.symm k x, starts_with)
+
+-- The same, as `strip_prefix` tells it.
+pub starts_stripped : (key s : List ℕ) → starts_with key s ≡ pointwise nat_eq (take (length key) s) key
+starts_stripped key s = sym (nat_list_eq_equiv.symm (take (length key) s) key ∙ starts_pointwise key s)
 
 -- What begins with a key is at least as long.
 pub starts_long : (key s : List ℕ) → starts_with key s ≡ true → length key ≤ length s
