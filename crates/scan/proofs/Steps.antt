@@ -10,7 +10,7 @@ use Rattle.std.specs.Cmp.Lexicographic.{nat_list_eq_equiv}
 use borrow.Author.Tests.{ltb-false}
 use Rattle.std.proofs.lemmas.List.Recursion.{is_position_or_len}
 use Rattle.scan.specs.Bytes.{before, starts_with, same}
-use Rattle.lists.proofs.Tests.{same_test, told}
+use Rattle.lists.proofs.Tests.{same_test}
 
 -- The list from a place on: its byte, and what follows.
 pub at_place : (s : List ℕ) (i : ℕ) → i < length s → drop i s ≡ get_or s i 0 ∷ drop (i + 1) s
@@ -63,10 +63,6 @@ starts_long (k ∷ key) (x ∷ s) h = go (starts_long key s) (eqb x k) refl
     go : (starts_with key s ≡ true → length key ≤ length s) → (b : Bool) → eqb x k ≡ b → length (k ∷ key) ≤ length (x ∷ s)
     go ih true e = omega (arith, ih (rw (e, starts_with) at h))
     go ih false e = absurd (false≢true (rw (e, starts_with) at h))
-
--- As a test answered it: the key's length fits.
-pub starts_room : (key s : List ℕ) (r : Bool) → r ≡ starts_with key s → r ≡ true → length key ≤ length s
-starts_room key s r e h = starts_long key s (told e h)
 
 -- ---- `same`
 
