@@ -1,5 +1,4 @@
-pub mod Numbers
 pub mod Each
+pub mod Numbers
 pub mod Names
-pub mod Declass
 pub mod Answers

@@ -1,4 +1,4 @@
--- Each way through a reader of numbers, over plain variables: `search` finds the premises in what the code has shown.
+-- Digits, decimals and masks, over plain variables: what the readers of numbers pass, and how large what they read can be.
 use Prim.Native.Nat.{ℕ, suc, ◌+◌, ◌-◌, ◌*◌, ◌/◌, ◌^◌, ◌≤◌, ◌<◌}
 use mathlib.Core.Path.{◌≡◌, refl, sym, ap, ◌∙◌, subst}
 use mathlib.Core.List.{List, [], ◌∷◌}
@@ -11,12 +11,10 @@ use lib.ListN.{length, get_or, drop, drop_of_length-le}
 use lib.Dec.{ltb, eqb}
 use lib.Pow.{pow_pos, pow_mono, split}
 use borrow.Author.Tests.{ltb-true, eqb-true, eqb-false, eq-eqb, ne_eqb, le-leb, lt-leb, lt-ltb, le-ltb}
-use Rattle.lists.proofs.Tests.{lt_or_le, told}
+use Rattle.lists.proofs.Tests.{lt_or_le}
 use Rattle.scan.proofs.Steps.{at_place}
-use Rattle.field.specs.Fields.{Field, is, bad, and_then, digit, digits, decimal, number, mask}
-use Rattle.field.specs.Answers.{number_of}
-use Rattle.field.specs.declared.NumberField.{NumberField}
-use Rattle.field.specs.declared.NumberField.TheVariants.{Is, Bad}
+use Rattle.field.proofs.Each.{mask_read}
+use Rattle.field.specs.Fields.{Field, is, bad, digit, digits, decimal, mask}
 
 -- ---- digits
 
@@ -43,20 +41,20 @@ module _ (b : ℕ) where
   unfolding digit
   digit_over h k l m = simp (le-leb 48 b h, lt-leb b 57 k, le-leb 97 b l, lt-leb b 102 m, digit)
 
--- A loop over the digits keeps `digits base 0 s ≡ digits base acc (drop i s)`; its turns and its two ends.
-module _ (base acc : ℕ) (s : List ℕ) (i : ℕ) (so_far : digits base 0 s ≡ digits base acc (drop i s)) where
-  pub digits_done : length s ≤ i → is acc ≡ digits base 0 s
+-- The digits from a place on.
+module _ (base acc : ℕ) (s : List ℕ) (i : ℕ) where
+  pub digits_done : length s ≤ i → digits base acc (drop i s) ≡ is acc
   unfolding digits
-  digits_done h = sym (so_far ∙ rw (drop_of_length-le s h))
+  digits_done h = rw (drop_of_length-le s h)
 
-  module _ (d : ℕ) (h : i < length s) (q : d ≡ digit (get_or s i 0)) where
-    pub digits_bad : base ≤ d → bad 2 ≡ digits base 0 s
+  module _ (h : i < length s) where
+    pub digits_bad : base ≤ digit (get_or s i 0) → digits base acc (drop i s) ≡ bad 2
     unfolding digits
-    digits_bad e = sym (so_far ∙ rw (at_place s i h, ← q, le-ltb _ _ e, digits))
+    digits_bad e = rw (at_place s i h, le-ltb _ _ e, digits)
 
-    pub digits_on : d < base → digits base 0 s ≡ digits base (acc * base + d) (drop (i + 1) s)
+    pub digits_on : digit (get_or s i 0) < base → digits base acc (drop i s) ≡ digits base (acc * base + digit (get_or s i 0)) (drop (i + 1) s)
     unfolding digits
-    digits_on e = so_far ∙ rw (at_place s i h, digits, ← q, lt-ltb _ _ e)
+    digits_on e = rw (at_place s i h, digits, lt-ltb _ _ e)
 
 -- A number of i digits, and one more.
 pub one_digit_more : (acc base d i : ℕ) → base ≤ 16 → d < base → acc < 16 ^ i → acc * base + d < 16 ^ (i + 1)
@@ -84,16 +82,14 @@ digits-below base acc i (b ∷ s) m small h e =
         absurd (omega arith)
 
 -- Sixteen digits fit.
-pub digits_fit : (n i : ℕ) → n < 16 ^ i → i ≤ 16 → n < 2 ^ 64
+digits_fit : (n i : ℕ) → n < 16 ^ i → i ≤ 16 → n < 2 ^ 64
 digits_fit n i h g = omega (arith, pow-le-pow_right {n = 16} (omega arith) g)
 
--- The next value of the loop fits, and so does its product.
-module _ (acc base d i n : ℕ) (few : n ≤ 16) (small : base ≤ 16) (l : i < n) (h : acc < 16 ^ i) (k : d < base) where
-  pub sum_fits : acc * base + d < 2 ^ 64
-  sum_fits = digits_fit (acc * base + d) (i + 1) (one_digit_more acc base d i small k h) (omega arith)
+-- The next value of the loop fits.
+pub sum_fits : (acc base d i n : ℕ) → n ≤ 16 → base ≤ 16 → i < n → acc < 16 ^ i → d < base → acc * base + d < 2 ^ 64
+sum_fits acc base d i n few small l h k = digits_fit (acc * base + d) (i + 1) (one_digit_more acc base d i small k h) (omega arith)
 
-  pub product_fits : acc * base < 2 ^ 64
-  product_fits = omega (arith, sum_fits)
+pub ruleset reading = (digits_done, digits_bad, digits_on, one_digit_more, sum_fits)
 
 -- ---- `decimal`
 
@@ -104,12 +100,6 @@ module _ (s : List ℕ) where
       let e : length s ≤ 0 = omega arith in
       simp (le-ltb 0 (length s) e, decimal)
 
-  pub decimal_long : 4 < length s → bad 2 ≡ decimal s
-  unfolding decimal
-  decimal_long h =
-      let e : 0 < length s = omega arith in
-      simp (lt-ltb 0 (length s) e, lt-leb (length s) 4 h, decimal)
-
   module _ (some : length s ≡ 0 → ⊥) (few : length s ≤ 4) where
     pub decimal_digit : (r : Field ℕ) → length s ≡ 1 → r ≡ digits 10 0 s → r ≡ decimal s
     unfolding decimal
@@ -117,44 +107,17 @@ module _ (s : List ℕ) where
         let k : 0 < length s = omega arith in
         simp (lt-ltb 0 (length s) k, le-leb (length s) 4 few, eq-eqb (length s) 1 h, decimal) e
 
-    module _ (more : length s ≡ 1 → ⊥) where
-      pub decimal_zero : get_or s 0 0 ≡ 48 → bad 2 ≡ decimal s
-      unfolding decimal
-      decimal_zero h =
-          let k : 0 < length s = omega arith in
-          simp (lt-ltb 0 (length s) k, le-leb (length s) 4 few, ne_eqb (length s) 1 more, eq-eqb (get_or s 0 0) 48 h, decimal)
-
-      pub decimal-digits : (r : Field ℕ) → (get_or s 0 0 ≡ 48 → ⊥) → r ≡ digits 10 0 s → r ≡ decimal s
-      unfolding decimal
-      decimal-digits r h e =
-          let k : 0 < length s = omega arith in
-          simp (lt-ltb 0 (length s) k, le-leb (length s) 4 few, ne_eqb (length s) 1 more, ne_eqb (get_or s 0 0) 48 h, decimal) e
-
--- ---- `number`
-
-module _ (refusal low limit : ℕ) (s : List ℕ) (r : NumberField) (e : number_of r ≡ decimal s) where
-  pub number_bad : (n : ℕ) → r ≡ Bad n → bad n ≡ number refusal low limit s
-  unfolding number and_then
-  number_bad n h = rw (← e, h, number)
-
-  module _ (v : ℕ) (h : r ≡ Is v) where
-    pub number_low : v < low → bad refusal ≡ number refusal low limit s
-    unfolding number and_then
-    number_low l = rw (← e, h, lt-leb low v l, number)
-
-    pub number_high : low ≤ v → limit ≤ v → bad refusal ≡ number refusal low limit s
-    unfolding number and_then
-    number_high l g = rw (← e, h, le-leb low v l, le-ltb v limit g, number)
-
-    pub number_is : low ≤ v → v < limit → is v ≡ number refusal low limit s
-    unfolding number and_then
-    number_is l g = rw (← e, h, le-leb low v l, lt-ltb v limit g, number)
+    pub decimal-digits : (length s ≡ 1 → ⊥) → (r : Field ℕ) → (get_or s 0 0 ≡ 48 → ⊥) → r ≡ digits 10 0 s → r ≡ decimal s
+    unfolding decimal
+    decimal-digits more r h e =
+        let k : 0 < length s = omega arith in
+        simp (lt-ltb 0 (length s) k, le-leb (length s) 4 few, ne_eqb (length s) 1 more, ne_eqb (get_or s 0 0) 48 h, decimal) e
 
 -- ---- `mask`
 
 -- No item at or past the limit, by a shift.
-pub below_shift : (m items : ℕ) (b : Bool) → b ≡ eqb (m / 2 ^ items) 0 → b ≡ ltb m (2 ^ items)
-below_shift m items b e = e ∙ go (eqb (m / 2 ^ items) 0) refl
+pub below_shift : (m items : ℕ) → eqb (m / 2 ^ items) 0 ≡ ltb m (2 ^ items)
+below_shift m items = go (eqb (m / 2 ^ items) 0) refl
   where
     go : (t : Bool) → eqb (m / 2 ^ items) 0 ≡ t → eqb (m / 2 ^ items) 0 ≡ ltb m (2 ^ items)
     go true q =
@@ -167,24 +130,21 @@ below_shift m items b e = e ∙ go (eqb (m / 2 ^ items) 0) refl
         reaches (inr l) = l
 
 -- Every item of a mask of 64 bits is below 64.
-pub below_all : (m items : ℕ) → m < 2 ^ 64 → 64 ≤ items → true ≡ ltb m (2 ^ items)
-below_all m items h k = sym (lt-ltb m (2 ^ items) (omega (arith, pow_mono {i = 64} {j = items} k)))
+pub below_all : (m items : ℕ) → m < 2 ^ 64 → 64 ≤ items → ltb m (2 ^ items) ≡ true
+below_all m items h k = lt-ltb m (2 ^ items) (omega (arith, pow_mono {i = 64} {j = items} k))
 
-module _ (width items : ℕ) (s : List ℕ) where
-  pub mask_layout : (length s ≡ width → ⊥) → bad 2 ≡ mask width items s
-  unfolding mask
-  mask_layout h = rw (ne_eqb (length s) width h, mask)
+-- ---- what fits a smaller word
 
-  module _ (w : length s ≡ width) (r : NumberField) (e : number_of r ≡ digits 16 0 s) where
-    pub mask_bad : (n : ℕ) → r ≡ Bad n → bad n ≡ mask width items s
-    unfolding mask and_then
-    mask_bad n h = rw (eq-eqb (length s) width w, ← e, h, mask)
+-- At most four digits, and eight.
+pub decimal_fits : (s : List ℕ) (v : ℕ) → length s ≤ 4 → is v ≡ digits 10 0 s → v < 2 ^ 16
+decimal_fits s v few e =
+    let below : v < 16 ^ (0 + length s) = digits-below 10 0 0 s v (omega arith) (omega arith) (sym e) in
+    let all : 0 + length s ≤ 4 = omega arith in
+    omega (arith, pow-le-pow_right {n = 16} (omega arith) all)
 
-    module _ (m : ℕ) (h : r ≡ Is m) (t : Bool) (q : t ≡ ltb m (2 ^ items)) where
-      pub mask_is : t ≡ true → is m ≡ mask width items s
-      unfolding mask and_then
-      mask_is k = rw (eq-eqb (length s) width w, ← e, h, told q k, mask)
-
-      pub mask_beyond : t ≡ false → bad 4 ≡ mask width items s
-      unfolding mask and_then
-      mask_beyond k = rw (eq-eqb (length s) width w, ← e, h, told q k, mask)
+pub mask_fits : (items : ℕ) (s : List ℕ) (m : ℕ) → is m ≡ mask 8 items s → m < 2 ^ 32
+mask_fits items s m e =
+    let read = mask_read 8 items s m (sym e) in
+    let below : m < 16 ^ (0 + length s) = digits-below 16 0 0 s m (omega arith) (omega arith) read.1 in
+    let width : length s ≡ 8 = read.0 in
+    omega (arith, subst (λ (k : ℕ). m < 16 ^ (0 + k)) width below)

@@ -5,8 +5,6 @@ use Rattle.lists.specs.Numbers.{all}
 use Rattle.field.specs.Fields.{Field, is, bad, name_byte}
 use Rattle.field.specs.declared.Refusal.{Refusal}
 use Rattle.field.specs.declared.Refusal.TheVariants.{TooLong, Layout, Range, Beyond, Stood, Misplaced}
-use Rattle.field.specs.declared.NumberField.{NumberField}
-use Rattle.field.specs.declared.NumberField.TheVariants.{Is, Bad}
 
 -- Document 01's number of a refusal.
 abbrev pub numbered : Refusal → ℕ
@@ -20,10 +18,6 @@ numbered Misplaced = 6
 abbrev pub field_of : {A : Type 0} → Result A Refusal → Field A
 field_of (Ok v) = is v
 field_of (Err refusal) = bad (numbered refusal)
-
-abbrev pub number_of : NumberField → Field ℕ
-number_of (Is v) = is v
-number_of (Bad n) = bad n
 
 -- The layout of a name, "1 to 16 of a-z, 0-9".
 abbrev pub is_name : List ℕ → Bool

@@ -1,49 +1,38 @@
-// The fields of the two texts that are one word, each read from the rest of its line after the key: a risk, a kind. A field's
-// answer is its value, or the number of the refusal.
+// The fields of the two texts that are one word, each read from the rest of its line after the key: a risk, a kind. The
+// words are compared whole: a `match` on them would compare byte by byte, with a case of the proof for each byte.
 #![tactic(auto)]
 
 ghost use Rattle.std.specs.Prelude.{◌≡◌};
 ghost use Rattle.field.specs.Fields.{risk, kind as kind_word};
-ghost use Rattle.keywords.specs.Answers.{risk_of, kind_of};
+ghost use Rattle.field.specs.Answers.{field_of};
 
+use field::Refusal;
 use plan::Kind;
 
-// The field of a `risk=` line.
-#[derive(Clone, Copy)]
-pub enum RiskField {
-    Is(bool),
-    Bad(u8),
-}
-
 // `0` or `1`.
-pub fn read_risk(s: &[u8]) -> RiskField
-    ensures { risk_of result ≡ risk s.now }
+#[tactic(auto, unfolding(field::specs::Fields::risk))]
+pub fn read_risk(s: &[u8]) -> Result<bool, Refusal>
+    ensures { field_of result ≡ risk s.now }
 {
     if scan::same_bytes(s, b"0") {
-        return RiskField::Is(false);
+        return Ok(false);
     }
     if scan::same_bytes(s, b"1") {
-        return RiskField::Is(true);
+        return Ok(true);
     }
-    RiskField::Bad(field::LAYOUT)
-}
-
-// The field of a `kind=` line.
-#[derive(Clone, Copy)]
-pub enum KindField {
-    Is(Kind),
-    Bad(u8),
+    Err(Refusal::Layout)
 }
 
 // `secrecy` or `prot`.
-pub fn read_kind(s: &[u8]) -> KindField
-    ensures { kind_of result ≡ kind_word s.now }
+#[tactic(auto, unfolding(field::specs::Fields::kind))]
+pub fn read_kind(s: &[u8]) -> Result<Kind, Refusal>
+    ensures { field_of result ≡ kind_word s.now }
 {
     if scan::same_bytes(s, b"secrecy") {
-        return KindField::Is(Kind::Secrecy);
+        return Ok(Kind::Secrecy);
     }
     if scan::same_bytes(s, b"prot") {
-        return KindField::Is(Kind::Prot);
+        return Ok(Kind::Prot);
     }
-    KindField::Bad(field::LAYOUT)
+    Err(Refusal::Layout)
 }

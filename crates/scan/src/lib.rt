@@ -8,48 +8,22 @@ ghost use Rattle.scan.specs.Bytes.{before, starts_with, same, further};
 pub fn find(s: &[u8], b: u8) -> usize
     ensures { result ≡ before b s.now }
 {
-    let mut i = 0;
-    while i < s.len() {
-        if s[i] == b {
-            return i;
-        }
-        i += 1;
-    }
-    i
+    s.iter().position(|x| *x == b).unwrap_or(s.len())
 }
 
 // Whether s begins with the bytes of the key.
 pub fn starts_with(s: &[u8], key: &[u8]) -> bool
     ensures { result ≡ starts_with key.now s.now }
 {
-    if s.len() < key.len() {
-        return false;
-    }
-    let mut i = 0;
-    while i < key.len() {
-        if s[i] != key[i] {
-            return false;
-        }
-        i += 1;
-    }
-    true
+    s.starts_with(key)
 }
 
-// Whether s and t are the same, byte for byte. From the end on: names that are numbered differ there first.
+// Whether s and t are the same, byte for byte. From the end on, where numbered names differ first: `s == t` takes up to
+// three times as long on those.
 pub fn same_bytes(s: &[u8], t: &[u8]) -> bool
     ensures { result ≡ same s.now t.now }
 {
-    if s.len() != t.len() {
-        return false;
-    }
-    let mut i = s.len();
-    while 0 < i {
-        i -= 1;
-        if s[i] != t[i] {
-            return false;
-        }
-    }
-    true
+    s.len() == t.len() && s.iter().rev().zip(t.iter().rev()).all(|(x, y)| x == y)
 }
 
 // The bytes from start to end, those of them that the text has. An empty part, too, lies at its start, or at the text's end

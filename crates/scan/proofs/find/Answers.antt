@@ -1,17 +1,13 @@
--- The bytes passed are none of them b; so many stand before it as have been passed, and those before it in the rest.
-use borrow.Author.Rules.{rules}
-use native.Mathlib.Omega.{arith}
-use Rattle.scan.proofs.Steps.{before_here, before_on, before_end}
+-- The library's search, told in the definition's words.
+use Rattle.std.proofs.Common.{◌≡◌, ◌∙◌, ap, nat_eq, length, position, unwrap_or, rules}
+use borrow.Author.Tests.{tests}
+use Rattle.std.proofs.lemmas.Iterator.{YieldsList-from_slice}
+use Rattle.std.proofs.lemmas.Iterator.Search.{position_from_yields_List}
+use Rattle.scan.proofs.Steps.{before_position}
 use Rattle.scan.proofs.find.Goals as goal
 
-pub loop-i-init : goal.loop-i-init
-loop-i-init c = omega arith
-
-pub returns-then-s-i : goal.returns-then-s-i
-returns-then-s-i c = search before_here
-
-pub loop-i-preserved : goal.loop-i-preserved
-loop-i-preserved c = (search rules, search before_on)
-
 pub returns : goal.returns
-returns c = search before_end
+returns c =
+    let found : c.position.result ≡ position (λ x. nat_eq x c.args.b) c.args.s.now
+    = position_from_yields_List _ _ _ c.position.result c.position.ensures.ran (YieldsList-from_slice c.args.s.now (cc)) (λ x b q k. search (rules, tests)) in
+    c.unwrap_or.ensures ∙ ap (λ r. unwrap_or r (length c.args.s.now)) found ∙ before_position c.args.b c.args.s.now
