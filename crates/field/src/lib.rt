@@ -42,7 +42,8 @@ impl From<Refusal> for u8 {
     }
 }
 
-// The value of a digit, 0-9 and a-f.
+// The value of a digit, 0-9 and a-f. Inlined, since a mask would else take a quarter longer to read.
+#[inline(always)]
 #[tactic(auto, unfolding(crate::specs::Fields::digit))]
 fn digit(b: u8) -> Option<u64>
     ensures { unwrap_or result 16 ≡ digit_of b }
