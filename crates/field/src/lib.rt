@@ -7,6 +7,7 @@ ghost use Rattle.lists.specs.Numbers.{all};
 ghost use Rattle.field.specs.Fields.{digit as digit_of, digits, decimal, number, mask as mask_of, name_byte, misplaced, declass as declass_of};
 ghost use Rattle.field.specs.Answers.{numbered, field_of, is_name};
 
+use mask::Mask;
 use plan::Kind;
 
 // Why a text is refused: document 01's numbers 1 to 6, in this order. The last five are those of a line.
@@ -151,7 +152,7 @@ fn is_misplaced(kind: Kind, source: u8, sink: u8, declass: u64) -> bool
     ensures { result ≡ misplaced kind source sink declass }
 {
     match kind {
-        Kind::Secrecy => mask::contains_u64(declass, source) | mask::contains_u64(declass, sink),
+        Kind::Secrecy => declass.contains(u32::from(source)) | declass.contains(u32::from(sink)),
         Kind::Prot => declass != 0,
     }
 }

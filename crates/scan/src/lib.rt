@@ -12,6 +12,7 @@ pub fn find(s: &[u8], b: u8) -> usize
 }
 
 // Whether s begins with the bytes of the key.
+#[tactic(auto, using(crate::proofs::Steps::starts_pointwise))]
 pub fn starts_with(s: &[u8], key: &[u8]) -> bool
     ensures { result ≡ starts_with key.now s.now }
 {
@@ -32,15 +33,7 @@ pub fn part<'a>(text: &'a [u8], start: usize, end: usize) -> &'a [u8]
     ensures result_value { result.now ≡ take (end - start) (drop start text.now) }
     ensures place { result.ref_ptr ≡ further (min start (length text.now)) text.entry.ref_ptr }
 {
-    let n = text.len();
-    if n <= start {
-        return &text[n..n];
-    }
-    if end <= start {
-        return &text[start..start];
-    }
-    if n <= end {
-        return &text[start..n];
-    }
-    &text[start..end]
+    let from = start.min(text.len());
+    let to = end.min(text.len()).max(from);
+    &text[from..to]
 }
