@@ -37,7 +37,7 @@ fn read_assertions(lines: &mut Lines, n: u8, k: u8) -> Result<[Assertion; 32], R
     requires { k ≤ 32 }
     ensures { Gives (λ row. row) (assertion_row n k (standing lines.old)) (standing lines.new) result }
 {
-    let mut assertions = [plan::blank_assertion(); 32];
+    let mut assertions = [Assertion::default(); 32];
     for i in 0..k as usize {
         assertions[i] = read_assertion(lines, n)?;
     }

@@ -16,7 +16,7 @@ fn read_entries(lines: &mut Lines, n: u8, m: u8) -> Result<[Template; 64], Refus
     requires { n ≤ 64 }
     ensures { Gives (λ row. row) (template_row n m (standing lines.old)) (standing lines.new) result }
 {
-    let mut templates = [plan::blank_template(); 64];
+    let mut templates = [Template::default(); 64];
     let mut names: [&[u8]; 64] = [b""; 64];
     for i in 0..n as usize {
         let (name, template) = entries::read_entry(lines, n, m, &names[..i])?;
