@@ -1,9 +1,7 @@
 -- Cases a to m of document 01, and its "Also" lines: what is asked, and what is answered.
 use Rattle.std.specs.Prelude.{ℕ, List, [], ◌∷◌, ◌++◌, map}
 use Prim.Native.String.{String}
-use Rattle.text.specs.declared.Reading.{Reading}
-use Rattle.text.specs.declared.Reading.TheVariants.{Complete}
-use Rattle.text.specs.Reading.{read_plan}
+use Rattle.text.specs.Reading.{Reading, Complete, read_plan}
 use Rattle.rules.specs.Judge.{judge, Line, says, counts, report}
 use Rattle.machine.specs.declared.Answer.{Answer}
 use Rattle.machine.specs.declared.Answer.TheVariants.{Done, Delivered, Held, Refused}

@@ -1,2 +1,2 @@
-pub mod Masks
+pub mod Names
 pub mod Gathered

@@ -1,84 +1,61 @@
-// The seven lines of a template: its name and its form, its masks, whether it is at risk. As in crate text, a reader takes the
-// text and a position, and gives the lines' value and the next position.
+// The seven lines of a template: its name, which no template before it has, its form, its masks, whether it is at risk.
 #![tactic(auto)]
 
 ghost use Rattle.std.specs.Prelude.{◌≡◌};
-ghost use Rattle.plan.specs.Plan.{masks};
+ghost use Rattle.std.specs.List.{list_any};
+ghost use Rattle.scan.specs.Bytes.{same};
+ghost use Rattle.field.specs.Fields.{name as name_field};
 ghost use Rattle.text.specs.Reading.{entry};
-ghost use Rattle.text.specs.Cursors.{cursor_of, step_of};
-ghost use Rattle.lines.specs.Names.{names_of};
-ghost use Rattle.entries.specs.Entry.{mask_keys, mask_lines, entry_of};
+ghost use Rattle.text.specs.Cursors.{standing, seen, Gives};
+ghost use Rattle.entries.specs.Entry.{latest, entry_of};
 
-use plan::{Form, Template};
-use text::Position;
+use field::Refusal;
+use plan::Template;
+use text::{Lines, Refused};
 
-#[derive(Clone, Copy)]
-pub struct MasksRead {
-    pub template: Template,
-    pub next: Position,
-}
-
-// The mask lines of a template of that form, of a plan with m identifiers. Whether it is at risk the line after them says.
-fn read_masks(text: &[u8], from: Position, form: Form, m: u8) -> MasksRead
-    ensures next_value { step_of text.now (masks result.template) result.next ≡ mask_lines m mask_keys (cursor_of text.now from) }
-    ensures formed { result.template.form ≡ form }
+// Whether the name stood earlier.
+fn has_stood(name: &[u8], names: &[&[u8]]) -> bool
+    ensures { result ≡ list_any (λ n. same name.now n.now) names.now }
 {
-    let lab = numberlines::mask_line(text, from, b"lab=", m);
-    let after_lab = lab.next;
-    let pos = numberlines::mask_line(text, after_lab, b"pos=", m);
-    let after_pos = pos.next;
-    let neg = numberlines::mask_line(text, after_pos, b"neg=", m);
-    let after_neg = neg.next;
-    let creates = numberlines::mask_line(text, after_neg, b"creates=", m);
-    let next = creates.next;
-    let template = Template {
-        form,
-        lab: lab.value,
-        pos: pos.value,
-        neg: neg.value,
-        creates: creates.value,
-        risk: false,
-    };
-    MasksRead { template, next }
+    names.iter().any(|stood| scan::same_bytes(name, stood))
 }
 
-// Where the name of a template stands, the template, and the position after its lines.
-#[derive(Clone, Copy)]
-pub struct EntryRead {
-    pub start: usize,
-    pub end: usize,
-    pub template: Template,
-    pub next: Position,
+// A name: its layout first, then the names that stood.
+fn read_name<'a>(s: &'a [u8], names: &[&[u8]]) -> Result<&'a [u8], Refusal>
+    ensures { seen (λ n. n.now) result ≡ name_field (latest names.now) s.entry.now }
+{
+    if !field::is_name(s) {
+        return Err(Refusal::Layout);
+    }
+    if has_stood(s, names) {
+        return Err(Refusal::Stood);
+    }
+    Ok(s)
 }
 
-// The seven lines of a template of a plan with n templates and m identifiers; the names that stood are at the first
-// places of the two rows.
-pub fn read_entry(
-    text: &[u8],
-    from: Position,
+// The lines of a template of a plan with n templates and m identifiers, after those whose names stood.
+pub fn read_entry<'a>(
+    lines: &mut Lines<'a>,
     n: u8,
     m: u8,
-    starts: &[usize],
-    ends: &[usize],
-    count: u8,
-) -> EntryRead
-    ensures { step_of text.now (entry_of text.now result) result.next ≡ entry n m (names_of text.now starts.now ends.now count) (cursor_of text.now from) }
+    names: &[&'a [u8]],
+) -> Result<(&'a [u8], Template), Refused>
+    ensures { Gives entry_of (entry n m (latest names.now) (standing lines.old)) (standing lines.new) result }
 {
-    let name = lines::name_line(text, from, starts, ends, count);
-    let after_name = name.next;
-    let form = lines::form_line(text, after_name, n);
-    let after_form = form.next;
-    let f = form.value;
-    let masked = read_masks(text, after_form, f, m);
-    let after_masks = masked.next;
-    let risk = lines::risk_line(text, after_masks);
-    let next = risk.next;
-    let mut template = masked.template;
-    template.risk = risk.value;
-    EntryRead {
-        start: name.start,
-        end: name.end,
-        template,
-        next,
-    }
+    let name = lines.field(b"name=", |s| read_name(s, names))?;
+    let form = lines.field(b"form=", |s| forms::read_form(s, n))?;
+    let lab = lines.field(b"lab=", |s| field::read_identifiers(s, m))?;
+    let pos = lines.field(b"pos=", |s| field::read_identifiers(s, m))?;
+    let neg = lines.field(b"neg=", |s| field::read_identifiers(s, m))?;
+    let creates = lines.field(b"creates=", |s| field::read_identifiers(s, m))?;
+    let risk = lines.field(b"risk=", keywords::read_risk)?;
+    let template = Template {
+        form,
+        lab,
+        pos,
+        neg,
+        creates,
+        risk,
+    };
+    Ok((name, template))
 }

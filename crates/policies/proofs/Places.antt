@@ -13,8 +13,7 @@ use Rattle.plan.specs.declared.Kind.TheVariants.{Secrecy}
 use Rattle.plan.specs.Plan.{blank_assertion, assertion_at}
 use Rattle.scan.specs.Bytes.{bytes, starts_with}
 use Rattle.field.specs.Fields.{is, number, kind}
-use Rattle.text.specs.Reading.{Cursor, on, line, assertion_lines, assertion, assertions, policy_header, policy, no_policy, read_policy}
-use Rattle.text.specs.declared.Reading.TheVariants.{Complete}
+use Rattle.text.specs.Reading.{Cursor, on, line, assertion_lines, assertion, assertions, policy_header, policy, no_policy, read_policy, Complete}
 use Rattle.text.proofs.Passed.{Live, after_lines, first_line, field_after, line_read, more_lines, passes_live, assertion-passes, assertions-passes, policy-header}
 use Rattle.reader.proofs.Live.{complete_holds}
 use Rattle.policies.proofs.PolicyRange.{assertions_fine}

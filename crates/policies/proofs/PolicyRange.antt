@@ -15,8 +15,7 @@ use Rattle.plan.specs.Plan.{blank_assertion, assertion_at}
 use Rattle.plan.specs.Range.{Clear, AssertionInRange, PolicyInRange}
 use Rattle.field.specs.Fields.{is, bad, number, template_number, mask, kind, misplaced, declass}
 use Rattle.field.proofs.Each.{Each, each_is, each_bad, each_if, each_then, mask_read}
-use Rattle.text.specs.Reading.{Cursor, on, line, assertion, assertions, policy, no_policy, read_policy}
-use Rattle.text.specs.declared.Reading.TheVariants.{Complete}
+use Rattle.text.specs.Reading.{Cursor, on, line, assertion, assertions, policy, no_policy, read_policy, Complete}
 use Rattle.reader.proofs.Rows.{row_full, row_past, row_cons}
 use Rattle.text.proofs.Passed.{Live}
 use Rattle.reader.proofs.Live.{line_from, line_each, count_line, complete_holds}

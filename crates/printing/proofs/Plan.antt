@@ -13,8 +13,7 @@ use Rattle.plan.specs.Plan.{blank, at}
 use Rattle.scan.specs.Bytes.{stands_in}
 use Rattle.field.specs.Fields.{number}
 use Rattle.field.specs.Answers.{is_name}
-use Rattle.text.specs.Reading.{longest, on, line, entries, plan, no_plan, if_complete, read_plan}
-use Rattle.text.specs.declared.Reading.TheVariants.{Complete}
+use Rattle.text.specs.Reading.{longest, on, line, entries, plan, no_plan, if_complete, read_plan, Complete}
 use Rattle.text.proofs.Passed.{Live}
 use Rattle.reader.specs.Names.{names, plan_names}
 use Rattle.reader.proofs.{Live.{complete_holds}, Range.{plan_in_range}, Names.{names_new, names_distinct}}

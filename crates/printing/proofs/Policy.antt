@@ -14,8 +14,7 @@ use Rattle.plan.specs.declared.{Kind.{Kind, TheVariants.{Secrecy, Prot}}, Assert
 use Rattle.plan.specs.Plan.{blank_assertion, assertion_at}
 use Rattle.plan.specs.Range.{Clear, AssertionInRange, PolicyInRange}
 use Rattle.field.specs.Fields.{number, misplaced}
-use Rattle.text.specs.Reading.{longest, Cursor, on, line, assertion, assertions, policy, if_complete, no_policy, read_policy}
-use Rattle.text.specs.declared.Reading.TheVariants.{Complete}
+use Rattle.text.specs.Reading.{longest, Cursor, on, line, assertion, assertions, policy, if_complete, no_policy, read_policy, Complete}
 use Rattle.policies.proofs.PolicyRange.{policy_in_range}
 use Rattle.printing.specs.Format.{PolicyFormat}
 use Rattle.printing.specs.Printing.{print_assertion, print_policy}

@@ -12,8 +12,7 @@ use lib.Pow.{pow_mono}
 use borrow.Author.Tests.{le-leb}
 use Rattle.lists.specs.Numbers.{tabulate}
 use Rattle.lists.proofs.{Tests.{lt_or_le}, Tabulate.{length-tabulate, get_or-tabulate}}
-use Rattle.text.specs.Reading.{longest, Cursor, on, stopped, Reader, closed, checked, if_complete}
-use Rattle.text.specs.declared.Reading.TheVariants.{Complete, Refused}
+use Rattle.text.specs.Reading.{longest, Cursor, on, stopped, Reader, closed, checked, if_complete, Complete, Refused}
 use Rattle.reader.proofs.{Rows.{row_full, row_past}, Live.{checked_live}}
 use Rattle.printing.proofs.Fields.{Masked}
 use Rattle.printing.proofs.Lines.{ahead, Wrote, Short}

@@ -4,7 +4,7 @@
 use Rattle.std.specs.Prelude.{ℕ, ◌≤◌}
 use mathlib.Core.{Path.{◌≡◌}, List.{List}}
 use Rattle.plan.specs.{declared.{Plan.{Plan}, Policy.{Policy}}, Range.{PolicyInRange}}
-use Rattle.text.specs.{declared.Reading.TheVariants.{Complete}, Reading.{read_plan, read_policy}}
+use Rattle.text.specs.Reading.{Complete, read_plan, read_policy}
 use Rattle.reader.specs.Names.{plan_names}
 use Rattle.printing.specs.{Printing.{print_plan, print_policy}, Printable.{Printable}}
 

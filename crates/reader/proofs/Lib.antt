@@ -1,8 +1,9 @@
 pub mod Rows
-pub mod Entries
-pub mod Gathered
-pub mod Closing
+pub mod Filling
+pub mod Templates
 pub mod Live
+pub mod Masks
 pub mod Range
 pub mod Names
 pub mod Places
+pub mod Closing

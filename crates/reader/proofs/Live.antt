@@ -2,7 +2,7 @@
 -- and what is true of every value of a field is true of the line's.
 use Prim.Native.Nat.{ℕ, ◌≤◌, ◌<◌}
 use Prim.Native.String.{String}
-use mathlib.Core.Path.{◌≡◌}
+use mathlib.Core.Path.{◌≡◌, sym, subst}
 use mathlib.Core.Bool.{Bool, true, false, cond}
 use mathlib.Core.List.{List}
 use native.Mathlib.Omega.{arith}
@@ -10,9 +10,8 @@ use lib.Dec.{leb}
 use lib.ListN.{length}
 use Rattle.field.specs.Fields.{Field, is, number}
 use Rattle.field.proofs.Each.{Each, number_range}
-use Rattle.text.specs.Reading.{longest, Cursor, on, stopped, line, closed, checked, if_complete}
+use Rattle.text.specs.Reading.{longest, Cursor, on, stopped, Step, line, closed, checked, if_complete, Complete, Refused}
 use Rattle.text.proofs.Passed.{Live, field_after, line_read}
-use Rattle.text.specs.declared.Reading.TheVariants.{Complete, Refused}
 
 -- A line after which reading has not stopped was not stopped before, and its value was read from some field.
 pub line_from : {A : Type 0} (empty : A) (key : String) (read : List ℕ → Field A) (c : Cursor)
@@ -52,3 +51,9 @@ pub complete_holds : {A : Type 0} (P : A → Type 0) (text : List ℕ) (c : Curs
     → checked text c ≡ Complete → P (if_complete (checked text c) v none)
 unfolding if_complete
 complete_holds P text c v none h e = rw e (h (checked_live text c e))
+
+-- A count that was read is in its range.
+pub count_read : (low limit : ℕ) (key : String) (c : Cursor) (v : ℕ) (text : List ℕ) (k : ℕ)
+    → line 0 key (number 3 low limit) c ≡ record { value = v; next = on text k } → v < limit
+count_read low limit key c v text k e =
+    subst (λ (s : Step ℕ). s.value < limit) e (count_line low limit key c (subst (λ (s : Step ℕ). Live s.next) (sym e) tt)).1.1

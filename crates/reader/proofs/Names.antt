@@ -9,8 +9,7 @@ use borrow.Author.Tests.{eq-eqb}
 use Rattle.lists.proofs.Tests.{or_none}
 use Rattle.scan.specs.Bytes.{same, stands_in}
 use Rattle.field.specs.Fields.{number}
-use Rattle.text.specs.Reading.{Cursor, on, line, entry, entries, plan, read_plan}
-use Rattle.text.specs.declared.Reading.TheVariants.{Complete}
+use Rattle.text.specs.Reading.{Cursor, on, line, entry, entries, plan, read_plan, Complete}
 use Rattle.reader.specs.Names.{names, plan_names, Distinct}
 use Rattle.reader.proofs.Rows.{row_cons}
 use Rattle.text.proofs.Passed.{Live}

@@ -12,8 +12,7 @@ use Rattle.plan.specs.declared.Plan.{Plan}
 use Rattle.scan.specs.Bytes.{bytes, starts_with, stands_in}
 use Rattle.field.specs.Fields.{is, bad, number, name_byte, name}
 use Rattle.field.proofs.Each.{Each, each_is, each_bad, each_if}
-use Rattle.text.specs.Reading.{Cursor, on, line, template_lines, entry, entries, plan_header, plan, no_plan, read_plan}
-use Rattle.text.specs.declared.Reading.TheVariants.{Complete}
+use Rattle.text.specs.Reading.{Cursor, on, line, template_lines, entry, entries, plan_header, plan, no_plan, read_plan, Complete}
 use Rattle.text.proofs.Passed.{Live, after_lines, first_line, field_after, line_read, more_lines, passes_live, entry-passes, entries-passes, plan-header}
 use Rattle.reader.specs.Names.{names, plan_names}
 use Rattle.reader.proofs.Live.{complete_holds}

@@ -17,10 +17,8 @@ use Rattle.plan.specs.Range.{InRange}
 use Rattle.scan.specs.Bytes.{bytes, before, starts_with, same, stands_in}
 use Rattle.field.specs.Fields.{is, bad, decimal, number, template_number, mask, name_byte, name, pair, form, risk}
 use Rattle.field.proofs.Each.{Each, each_is, each_bad, each_if, each_then, number_range, mask_read}
-use Rattle.text.specs.Reading.{Cursor, on, Step, line, Entry, entry, entries, plan, no_plan, read_plan}
-use Rattle.text.specs.declared.Reading.TheVariants.{Complete}
-use Rattle.entries.specs.Entry.{mask_keys, mask_lines, entry_lines}
-use Rattle.entries.proofs.Masks.{entry_same}
+use Rattle.text.specs.Reading.{Cursor, on, Step, line, Entry, entry, entries, plan, no_plan, read_plan, Complete}
+use Rattle.reader.proofs.Masks.{mask_keys, mask_lines, entry_lines, entry_same}
 use Rattle.reader.proofs.Rows.{row_full, row_past, row_cons}
 use Rattle.text.proofs.Passed.{Live}
 use Rattle.reader.proofs.Live.{line_from, line_each, count_line, complete_holds}

@@ -7,9 +7,7 @@ use mathlib.Core.List.{List}
 use Rattle.plan.specs.declared.Plan.{Plan}
 use Rattle.plan.specs.declared.Policy.{Policy}
 use Rattle.plan.specs.Range.{InRange}
-use Rattle.text.specs.declared.Reading.{Reading}
-use Rattle.text.specs.declared.Reading.TheVariants.{Complete, Refused}
-use Rattle.text.specs.Reading.{read_plan, read_policy}
+use Rattle.text.specs.Reading.{Reading, Complete, Refused, read_plan, read_policy}
 use Rattle.rules.specs.Rules.{EveryRule}
 use Rattle.rules.specs.Judge.{Text, PlanText, PolicyText, Fault, Breach, Verdict, Accepted, Broken, Unread, check11, check_edges, check_assertions, judge_read, after_reading, judge}
 use Rattle.rules.specs.Broken.{FirstBroken, broken11, on_edge, on_assertion}

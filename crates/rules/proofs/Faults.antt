@@ -10,10 +10,7 @@ use lib.Dec.{leb}
 use lib.ListN.{length, take, drop, take-append-drop, length-append}
 use lib.Seq.{take_at, take-append_seam}
 use borrow.Author.Tests.{le-leb, leb-true, leb-false}
-use Rattle.text.specs.declared.Refusal.{Refusal}
-use Rattle.text.specs.declared.Reading.{Reading}
-use Rattle.text.specs.declared.Reading.TheVariants.{Complete, Refused}
-use Rattle.text.specs.Reading.{longest, Cursor, on, stopped, Step, Reader, plan, policy, closed, checked, read_plan, read_policy}
+use Rattle.text.specs.Reading.{Refusal, Reading, Complete, Refused, longest, Cursor, on, stopped, Step, Reader, plan, policy, closed, checked, read_plan, read_policy}
 use Rattle.rules.specs.Judge.{Text, PlanText, PolicyText, Fault, Verdict, Accepted, Broken, Unread, judge_read, after_reading, judge}
 use Rattle.rules.specs.Show.{line_start, faulty_line, text_of, located, locate}
 use Rattle.rules.specs.Faults.{Lines, Stood, too_long, TooLong}

@@ -2,10 +2,7 @@
 -- Not to be believed: the laws of proofs/Faults.antt say that the shown part of Show.antt begins there.
 use Rattle.std.specs.Prelude.{ℕ, suc, ◌<◌, ◌≡◌, ◌⊎◌, List, [], ◌∷◌, ◌++◌, length, take}
 use Rattle.scan.specs.Bytes.{before}
-use Rattle.text.specs.Reading.{longest}
-use Rattle.text.specs.declared.Refusal.{Refusal}
-use Rattle.text.specs.declared.Reading.{Reading}
-use Rattle.text.specs.declared.Reading.TheVariants.{Complete, Refused}
+use Rattle.text.specs.Reading.{longest, Refusal, Reading, Complete, Refused}
 
 -- So many lines, "each line ended by byte 10".
 pub data Lines : ℕ → List ℕ → Type 0 where

@@ -13,7 +13,7 @@ use Rattle.plan.specs.declared.{Assertion.{Assertion}, Policy.{Policy}}
 use Rattle.plan.specs.Plan.{at, successors, creates, assertion_at}
 use Rattle.scan.specs.Bytes.{bytes}
 use Rattle.route.specs.Search.{shares_tag, splits_tag}
-use Rattle.text.specs.{declared.Reading.{Reading, TheVariants.{Complete, Refused}}, Reading.{read_plan, read_policy}}
+use Rattle.text.specs.Reading.{Reading, Complete, Refused, read_plan, read_policy}
 pub use Rattle.rules.specs.declared.Text.{Text, TheVariants.{Plan as PlanText, Policy as PolicyText}}
 pub use Rattle.rules.specs.declared.{Fault.{Fault}, Breach.{Breach}, Verdict.{Verdict}}
 pub use Rattle.rules.specs.declared.Verdict.TheVariants.{Accepted, Broken, Unread}

@@ -10,8 +10,7 @@ use lib.ListN.{length, drop, length-take, length-drop}
 use borrow.Author.Tests.{ltb-true}
 use Rattle.scan.specs.Bytes.{bytes, before, further}
 use Rattle.scan.proofs.Steps.{before_le, starts_long}
-use Rattle.text.specs.Reading.{plan_header, template_lines, policy_header, assertion_lines, read_plan}
-use Rattle.text.specs.declared.Reading.TheVariants.{Complete}
+use Rattle.text.specs.Reading.{plan_header, template_lines, policy_header, assertion_lines, read_plan, Complete}
 use Rattle.text.proofs.Passed.{first_line}
 use Rattle.reader.proofs.Places.{name-stands}
 use Rattle.rules.specs.declared.Breach.{Breach}

@@ -11,8 +11,7 @@ use Rattle.scan.specs.Bytes.{bytes, before, starts_with}
 use Rattle.scan.proofs.Parts.{drop-take}
 use Rattle.plan.specs.Plan.{assertion_at}
 use Rattle.field.specs.Fields.{is, kind}
-use Rattle.text.specs.Reading.{plan_header, template_lines, policy_header, assertion_lines, read_plan, read_policy}
-use Rattle.text.specs.declared.Reading.TheVariants.{Complete}
+use Rattle.text.specs.Reading.{plan_header, template_lines, policy_header, assertion_lines, read_plan, read_policy, Complete}
 use Rattle.text.proofs.Passed.{after_lines, first_line, field_after}
 use Rattle.reader.specs.Names.{plan_names}
 use Rattle.reader.proofs.Places.{name-stands}

@@ -1,2 +1,3 @@
-pub mod Lines
+pub mod Opening
 pub mod Passed
+pub mod Ending

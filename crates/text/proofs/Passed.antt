@@ -13,8 +13,8 @@ use Rattle.scan.specs.Bytes.{bytes, before, starts_with}
 use Rattle.lists.proofs.Tests.{and_both}
 use Rattle.field.specs.Fields.{Field, is, bad, number, template_number, mask, name, form, risk, kind, declass}
 use Rattle.text.specs.Reading.{Cursor, on, stopped, Step, Reader, ◌>>=◌, give, line, template_lines, entry, entries, plan_header, plan, assertion_lines, assertion, assertions, policy_header, policy}
-use Rattle.text.specs.Cursors.{settled, after, opened, keyed}
-use Rattle.text.proofs.Lines.{begins, keyed-line}
+use Rattle.text.specs.Cursors.{begins, settled, after, opened, keyed}
+use Rattle.text.proofs.Opening.{keyed-line}
 
 -- Reading has not stopped.
 abbrev pub Live : Cursor → Type 0

@@ -1,43 +1,39 @@
--- What the positions and lines of the code of crate text stand for, on the text that it is lent.
+-- What reading in the code stands for: where it stands, a line opened, and a line read.
 -- Not to be believed: the contracts of read_plan and read_policy do not name them.
-use Rattle.std.specs.Prelude.{ℕ, ◌+◌, ◌-◌, ◌≤◌, ◌<◌, Bool, cond, ◌&&◌, List, leb, ltb, length, take, drop}
+use Rattle.std.specs.Prelude.{◌≡◌, ℕ, ◌+◌, Bool, true, false, cond, ◌&&◌, List, leb, ltb, length, take, drop, Option, Some, None, Result, Ok, Err}
+use denote.Ref.{Bor}
 use Rattle.scan.specs.Bytes.{before, starts_with}
 use Rattle.field.specs.Fields.{Field, is, bad}
+use Rattle.field.specs.Answers.{numbered}
+use Rattle.field.specs.declared.Refusal.{Refusal as Reason}
+use Rattle.field.specs.declared.Refusal.TheVariants.{TooLong}
 use Rattle.text.specs.Reading.{longest, Cursor, on, stopped, Step, Reader}
-use Rattle.text.specs.declared.Position.{Position}
-use Rattle.text.specs.declared.Position.TheVariants.{On, Stopped}
-use Rattle.text.specs.declared.Span.{Span}
-use Rattle.text.specs.declared.Span.TheVariants.{At, Missing}
-use Rattle.text.specs.declared.Line.{Line}
-use Rattle.text.specs.declared.Line.TheVariants.{Open, Closed}
-
--- The bytes from a to e, as the code lends them.
-abbrev pub part : ℕ → ℕ → List ℕ → List ℕ
-part a e text = take (e - a) (drop a text)
+use Rattle.text.specs.declared.Refused.{Refused as RefusedLine}
+use Rattle.text.specs.declared.Lines.{Lines}
 
 -- ---- positions
 
--- The position is one of this text: in it, each line before it took a byte, and the text is not too long.
-unfoldable pub stands : List ℕ → ℕ → ℕ → Bool
-stands text at k = leb (length text) longest && (leb at (length text) && leb k (at + 1))
+abbrev pub standing : Lines → Cursor
+standing lines = on lines.rest.now lines.line
 
--- A position that is none of this text has no line: 2, it is missing.
-unfoldable pub cursor_of : List ℕ → Position → Cursor
-cursor_of text (On at k) = cond (stands text at k) (on (drop at text) k) (stopped 2 k)
-cursor_of text (Stopped n k) = stopped n k
+-- Reading stopped at that line.
+abbrev pub stopped_at : RefusedLine → Cursor
+stopped_at r = stopped (numbered r.refusal) r.line
 
--- What a line's reader of the code gives.
-abbrev pub step_of : {A : Type 0} → List ℕ → A → Position → Step A
-step_of text v next = record { value = v; next = cursor_of text next }
+unfoldable pub Started : List ℕ → Result Lines RefusedLine → Type 0
+Started text (Ok lines) = (leb (length text) longest ≡ true) × (standing lines ≡ on text 1)
+Started text (Err r) = (leb (length text) longest ≡ false) × (r ≡ record { refusal = TooLong; line = 0 })
+
+-- What a reader of the code gives, and where it stands then; once a line is refused, no later answer uses its value.
+unfoldable pub Gives : {A B : Type 0} → (A → B) → Step B → Cursor → Result A RefusedLine → Type 0
+Gives view step next (Ok v) = step ≡ record { value = view v; next = next }
+Gives view step next (Err r) = step.next ≡ stopped_at r
 
 -- ---- a line in two steps: its field found, and read
 
--- Where the field of the first line starts and ends.
-unfoldable pub span_of : List ℕ → List ℕ → Span
-span_of key text =
-    cond (ltb (before 10 text) (length text) && starts_with key (take (before 10 text) text))
-    (At (length key) (before 10 text))
-    Missing
+-- The first line begins with its key.
+abbrev pub begins : List ℕ → List ℕ → Bool
+begins key text = ltb (before 10 text) (length text) && starts_with key (take (before 10 text) text)
 
 -- A line that has its key: its field, the text after it and its number. Or where reading stands without it.
 pub data Opened : Type 0 where
@@ -46,7 +42,7 @@ pub data Opened : Type 0 where
 
 unfoldable pub opened : List ℕ → Cursor → Opened
 opened key (on text k) =
-    cond (ltb (before 10 text) (length text) && starts_with key (take (before 10 text) text))
+    cond (begins key text)
     (found (drop (length key) (take (before 10 text) text)) (drop (before 10 text + 1) text) k)
     (gone (stopped 2 k))
 opened key (stopped n k) = gone (stopped n k)
@@ -63,11 +59,22 @@ after empty read (gone c) = record { value = empty; next = c }
 unfoldable pub keyed : {A : Type 0} → A → List ℕ → (List ℕ → Field A) → Reader A
 keyed empty key read c = after empty read (opened key c)
 
-unfoldable pub opened_of : List ℕ → Line → Opened
-opened_of text (Open a e k) = found (part a e text) (drop (e + 1) text) k
-opened_of text (Closed next) = gone (cursor_of text next)
+-- A line opened by the code, of that number.
+unfoldable pub opened_of : ℕ → Option (Bor (List ℕ) × Lines) → Opened
+opened_of k (Some (field, next)) = found field.now next.rest.now k
+opened_of k None = gone (stopped 2 k)
 
--- The field lies in its line, and so many lines took their bytes.
-unfoldable pub Within : List ℕ → Line → Type 0
-Within text (Open a e k) = (a ≤ e) × (e < length text) × (k ≤ e + 1) × (length text ≤ longest)
-Within text (Closed next) = Unit
+-- A field's answer is the line's; after a value reading stands on the next line.
+unfoldable pub Settled : {A : Type 0} → Result A Reason → List ℕ → ℕ → Cursor → Result A RefusedLine → Type 0
+Settled (Ok v) rest k next r = (r ≡ Ok v) × (next ≡ on rest (k + 1))
+Settled (Err e) rest k next r = r ≡ Err (record { refusal = e; line = k })
+
+-- The line's answer, by what the field's reader may give.
+unfoldable pub Answered : {A : Type 0} → (List ℕ → Result A Reason → Type 0) → Opened → Cursor → Result A RefusedLine → Type 0
+Answered {A} Read (found s rest k) next r = (x : Result A Reason) × Read s x × Settled x rest k next r
+Answered Read (gone c) next r = (e : RefusedLine) × (r ≡ Err e) × (c ≡ stopped_at e)
+
+-- A field's answer of the code, its value seen as the definition's.
+abbrev pub seen : {A B : Type 0} → (A → B) → Result A Reason → Field B
+seen view (Ok v) = is (view v)
+seen view (Err r) = bad (numbered r)

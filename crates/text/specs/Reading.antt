@@ -9,12 +9,29 @@ use Rattle.plan.specs.declared.{Assertion.{Assertion}, Policy.{Policy}}
 use Rattle.plan.specs.Plan.{blank, blank_assertion}
 use Rattle.scan.specs.Bytes.{bytes, before, starts_with}
 use Rattle.field.specs.Fields.{Field, is, bad, and_then, number, template_number, mask, name, form, risk, kind, declass}
-use Rattle.text.specs.declared.{Reading.{Reading, TheVariants.{Complete, Refused}}, PlanRead.{PlanRead}}
-use Rattle.text.specs.declared.PolicyRead.{PolicyRead}
 
 -- "Each text at most 16,384 bytes."
 abbrev pub longest : ℕ
 longest = 16384
+
+-- A text is read whole, or refused with a number and a line.
+pub record Refusal : Type 0 where
+  pub number : ℕ
+  pub line : ℕ
+
+pub data Reading : Type 0 where
+  Complete : Reading
+  Refused : Refusal → Reading
+
+-- A refused text hands back the blank plan,
+pub record PlanRead : Type 0 where
+  pub answer : Reading
+  pub plan : Plan
+
+-- or the blank policy.
+pub record PolicyRead : Type 0 where
+  pub answer : Reading
+  pub policy : Policy
 
 -- Where reading stands: the rest of the text and the number of its first line; or the refusal's number and line.
 pub data Cursor : Type 0 where
