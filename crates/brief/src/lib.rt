@@ -1,39 +1,37 @@
-// A verdict on one line, as stored cases have it.
+// What stored cases say of a verdict, on one line.
 #![tactic(auto)]
 
 use rules::{Text, Verdict};
-use std::io;
-use std::io::Write;
+use std::fmt;
+use std::fmt::{Formatter, Write};
 
-// Which text, between the words of a line.
-pub fn print_which<W: Write>(out: &mut W, text: Text) -> io::Result<()> {
-    match text {
-        Text::Plan => console::print(out, b" plan "),
-        Text::Policy => console::print(out, b" policy "),
+// The name of a text.
+#[derive(Clone, Copy)]
+pub struct Name(pub Text);
+
+impl fmt::Display for Name {
+    fn fmt<W: Write>(&self, f: &mut Formatter<W>) -> fmt::Result {
+        match self.0 {
+            Text::Plan => write!(f, "plan"),
+            Text::Policy => write!(f, "policy"),
+        }
     }
 }
 
-// A verdict on one line, as stored cases have it.
-pub fn print_brief<W: Write>(out: &mut W, verdict: Verdict) -> io::Result<()> {
-    match verdict {
-        Verdict::Accepted => console::print(out, b"accepted"),
-        Verdict::Broken(breach) => {
-            console::print(out, b"broken ")?;
-            console::print_number(out, breach.rule as u64)?;
-            console::print(out, b" ")?;
-            console::print_number(out, breach.first as u64)?;
-            console::print(out, b" ")?;
-            console::print_number(out, breach.second as u64)?;
-            console::print(out, b" ")?;
-            console::print_number(out, breach.identifier as u64)
-        }
-        Verdict::Unread(fault) => {
-            console::print(out, b"unread")?;
-            let text = fault.text;
-            print_which(out, text)?;
-            console::print_number(out, fault.number as u64)?;
-            console::print(out, b" ")?;
-            console::print_number(out, fault.line as u64)
+// A verdict on one line.
+#[derive(Clone, Copy)]
+pub struct Brief(pub Verdict);
+
+impl fmt::Display for Brief {
+    fn fmt<W: Write>(&self, f: &mut Formatter<W>) -> fmt::Result {
+        match self.0 {
+            Verdict::Accepted => write!(f, "accepted"),
+            Verdict::Broken(b) => write!(
+                f,
+                "broken {} {} {} {}",
+                b.rule, b.first, b.second, b.identifier
+            ),
+            Verdict::Unread(u) => write!(f, "unread {} {} {}", Name(u.text), u.number, u.line),
         }
     }
 }

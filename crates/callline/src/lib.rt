@@ -1,94 +1,59 @@
 // One line of the text of calls: `step S B`, `send F T`, `raise S I` or `lower S I`, decimal numbers up to 4,294,967,295 without
-// leading zeros, one space apart. A call is its kind (0 step, 1 send, 2 raise, 3 lower) and its two numbers.
+// leading zeros, one space apart.
 #![tactic(auto)]
 
+// A call and its two numbers.
 #[derive(Clone, Copy)]
-enum Number {
-    Is(u32),
-    Bad,
+pub enum Call {
+    Step(u32, u32),
+    Send(u32, u32),
+    Raise(u32, u32),
+    Lower(u32, u32),
+}
+
+// The three words of a call: its kind as document 01 numbers it, and its numbers.
+impl From<Call> for [u32; 3] {
+    fn from(call: Call) -> [u32; 3] {
+        match call {
+            Call::Step(serial, branch) => [0, serial, branch],
+            Call::Send(from, to) => [1, from, to],
+            Call::Raise(serial, identifier) => [2, serial, identifier],
+            Call::Lower(serial, identifier) => [3, serial, identifier],
+        }
+    }
 }
 
 // One digit more.
-fn with_digit(value: u32, b: u8) -> Number {
-    if b < 48 {
-        return Number::Bad;
-    }
-    if 57 < b {
-        return Number::Bad;
-    }
-    let next = (value as u64) * 10 + ((b - 48) as u64);
-    if 4294967295 < next {
-        return Number::Bad;
-    }
-    Number::Is((next % 4294967296) as u32)
+fn with_digit(value: u32, b: u8) -> Option<u32> {
+    let digit = char::from(b).to_digit(10)?;
+    value.checked_mul(10)?.checked_add(digit)
 }
 
-fn read_number(s: &[u8]) -> Number {
-    if s.len() == 0 {
-        return Number::Bad;
+// std's parse would take a sign and leading zeros.
+fn read_number(s: &[u8]) -> Option<u32> {
+    match s {
+        [] | [b'0', _, ..] => None,
+        _ => s.iter().try_fold(0, |value, b| with_digit(value, *b)),
     }
-    if 1 < s.len() {
-        if s[0] == 48 {
-            return Number::Bad;
-        }
-    }
-    let mut value: u32 = 0;
-    for b in s {
-        let Number::Is(next) = with_digit(value, *b) else {
-            return Number::Bad;
-        };
-        value = next;
-    }
-    Number::Is(value)
 }
 
-// 4 where the word names no call.
-fn kind_of(word: &[u8]) -> u32 {
-    if scan::same_bytes(word, b"step") {
-        return 0;
-    }
-    if scan::same_bytes(word, b"send") {
-        return 1;
-    }
-    if scan::same_bytes(word, b"raise") {
-        return 2;
-    }
-    if scan::same_bytes(word, b"lower") {
-        return 3;
-    }
-    4
-}
-
-#[derive(Clone, Copy)]
-pub enum Line {
-    Call(u32, u32, u32),
-    Bad,
-}
-
-// The two numbers of a call of that kind.
-fn read_pair(kind: u32, s: &[u8]) -> Line {
-    let space = scan::find(s, 32);
-    if s.len() <= space {
-        return Line::Bad;
-    }
-    let Number::Is(x) = read_number(&s[0..space]) else {
-        return Line::Bad;
-    };
-    let Number::Is(y) = read_number(&s[space + 1..]) else {
-        return Line::Bad;
-    };
-    Line::Call(kind, x, y)
+// What stands before the first space, and what after it.
+fn split_at_space(s: &[u8]) -> Option<(&[u8], &[u8])> {
+    let space = s.iter().position(|b| *b == b' ')?;
+    Some((&s[..space], &s[space + 1..]))
 }
 
 // A line without its byte 10.
-pub fn read_line(s: &[u8]) -> Line {
-    let space = scan::find(s, 32);
-    if s.len() <= space {
-        return Line::Bad;
+pub fn read_line(s: &[u8]) -> Option<Call> {
+    let (word, numbers) = split_at_space(s)?;
+    let (first, second) = split_at_space(numbers)?;
+    let x = read_number(first)?;
+    let y = read_number(second)?;
+    match word {
+        b"step" => Some(Call::Step(x, y)),
+        b"send" => Some(Call::Send(x, y)),
+        b"raise" => Some(Call::Raise(x, y)),
+        b"lower" => Some(Call::Lower(x, y)),
+        _ => None,
     }
-    let kind = kind_of(&s[0..space]);
-    if 3 < kind {
-        return Line::Bad;
-    }
-    read_pair(kind, &s[space + 1..])
 }

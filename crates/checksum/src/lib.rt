@@ -8,55 +8,54 @@ fn mix(sum: u64, value: u64) -> u64 {
     (sum % 1000003 * 31 + value % 1000003) % 1000003
 }
 
+// The values one after the other.
+fn mix_all(sum: u64, values: &[u64]) -> u64 {
+    values.iter().fold(sum, |sum, value| mix(sum, *value))
+}
+
 fn mix_form(sum: u64, form: Form) -> u64 {
     match form {
-        Form::End => mix(sum, 0),
-        Form::Go(y) => mix(mix(sum, 1), y as u64),
-        Form::Either(y, z) => mix(mix(mix(sum, 2), y as u64), z as u64),
-        Form::Both(y, z) => mix(mix(mix(sum, 3), y as u64), z as u64),
+        Form::End => mix_all(sum, &[0]),
+        Form::Go(y) => mix_all(sum, &[1, y.into()]),
+        Form::Either(y, z) => mix_all(sum, &[2, y.into(), z.into()]),
+        Form::Both(y, z) => mix_all(sum, &[3, y.into(), z.into()]),
     }
 }
 
 fn mix_template(sum: u64, t: Template) -> u64 {
-    let form = t.form;
-    let a = mix(mix_form(sum, form), t.lab as u64);
-    let b = mix(mix(mix(a, t.pos as u64), t.neg as u64), t.creates as u64);
-    if t.risk {
-        return mix(b, 1);
-    }
-    mix(b, 0)
-}
-
-fn mix_kind(sum: u64, kind: Kind) -> u64 {
-    match kind {
-        Kind::Secrecy => mix(sum, 0),
-        Kind::Prot => mix(sum, 1),
-    }
+    let values = [
+        t.lab.into(),
+        t.pos.into(),
+        t.neg.into(),
+        t.creates.into(),
+        t.risk.into(),
+    ];
+    mix_all(mix_form(sum, t.form), &values)
 }
 
 fn mix_assertion(sum: u64, a: Assertion) -> u64 {
-    let kind = a.kind;
-    let k = mix_kind(sum, kind);
-    mix(
-        mix(mix(mix(k, a.source as u64), a.sink as u64), a.anc as u64),
+    let kind = match a.kind {
+        Kind::Secrecy => 0,
+        Kind::Prot => 1,
+    };
+    let values = [
+        kind,
+        a.source.into(),
+        a.sink.into(),
+        a.anc.into(),
         a.declass,
-    )
+    ];
+    mix_all(sum, &values)
 }
 
 pub fn mix_plan(sum: u64, plan: Plan) -> u64 {
-    let mut total = sum;
-    for i in 0..64u8 {
-        let t = plan::template_at(plan, i);
-        total = mix_template(total, t);
-    }
-    total
+    (0..64u8).fold(sum, |total, i| {
+        mix_template(total, plan::template_at(plan, i))
+    })
 }
 
 pub fn mix_policy(sum: u64, policy: Policy) -> u64 {
-    let mut total = sum;
-    for i in 0..32usize {
-        let a = plan::assertion_at(policy, i);
-        total = mix_assertion(total, a);
-    }
-    total
+    (0..32usize).fold(sum, |total, i| {
+        mix_assertion(total, plan::assertion_at(policy, i))
+    })
 }

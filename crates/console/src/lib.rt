@@ -1,10 +1,10 @@
 // What the programs share: a file read into a buffer, and lines of a key and a value.
 #![tactic(auto)]
 
-ghost use Rattle.std.specs.Prelude.{◌≡◌, ◌<◌, [], ◌∷◌, ◌++◌, length, take, IfOk, OnOk};
+ghost use Rattle.std.specs.Prelude.{◌≡◌, ◌<◌, ◌≤◌, [], ◌∷◌, ◌++◌, length, take, IfOk, OnOk};
 ghost use Rattle.std.specs.Fmt.{decimal};
 ghost use Rattle.std.specs.Io.{ReadsAtMost};
-ghost use Rattle.console.specs.Hexadecimal.{hex_digit_of, hex_byte_of, hex_word_of};
+ghost use Rattle.console.specs.Hexadecimal.{hex_byte_of, hex_word_of};
 ghost use Rattle.std.specs.Io.KnownBytes.{Appends, Consumes, IsAtEnd};
 
 use std::fs::File;
@@ -20,7 +20,7 @@ pub fn large_buffer() -> [u8; 65536]
 }
 
 // Reads until the buffer is full or the input ends, and answers how many bytes stand at the buffer's start.
-pub fn read_full<R: Read>(input: &mut R, buffer: &mut [u8]) -> io::Result<usize>
+fn fill<R: Read>(input: &mut R, buffer: &mut [u8]) -> io::Result<usize>
     ensures bound { ReadsAtMost result buffer.new }
     ensures bytes { IfOk result (λ n. Consumes (R.remaining input.old) (R.remaining input.new) (take n buffer.new)) }
     ensures end { IfOk result (λ n. n < length buffer.new → IsAtEnd (R.remaining input.new)) }
@@ -36,15 +36,25 @@ pub fn read_full<R: Read>(input: &mut R, buffer: &mut [u8]) -> io::Result<usize>
     Ok(done)
 }
 
-// How many bytes of the file are now in the buffer; a missing file counts as empty, and so does any other that cannot be opened.
-pub fn read_file(rt: &impl Files, path: &[u8], buffer: &mut [u8]) -> io::Result<usize>
-    ensures { ReadsAtMost result buffer.new }
+// The bytes that are read until the buffer is full or the input ends.
+pub fn read_full<'a, R: Read>(input: &mut R, buffer: &'a mut [u8]) -> io::Result<&'a [u8]>
+    ensures bound { IfOk result (λ read. length read.now ≤ length buffer.old) }
+    ensures bytes { IfOk result (λ read. Consumes (R.remaining input.old) (R.remaining input.new) read.now) }
+    ensures end { IfOk result (λ read. length read.now < length buffer.old → IsAtEnd (R.remaining input.new)) }
+{
+    let n = fill(input, buffer)?;
+    Ok(&buffer[..n])
+}
+
+// The bytes of the file that the buffer has room for; a missing file counts as empty, and so does any other that cannot be opened.
+pub fn read_file<'a>(rt: &impl Files, path: &[u8], buffer: &'a mut [u8]) -> io::Result<&'a [u8]>
+    ensures { IfOk result (λ read. length read.now ≤ length buffer.old) }
 {
     let Ok(name) = str::from_utf8(path) else {
-        return Ok(0);
+        return Ok(&[]);
     };
     let Ok(mut file) = File::open(rt, name) else {
-        return Ok(0);
+        return Ok(&[]);
     };
     read_full(&mut file, buffer)
 }
@@ -63,43 +73,38 @@ pub fn print_figure<W: Write>(out: &mut W, key: &[u8], figure: u64) -> io::Resul
     writeln!(out, "{figure}")
 }
 
-pub fn print_number<W: Write>(out: &mut W, n: u64) -> io::Result<()>
-    ensures { OnOk result (Appends (W.contents out.old) (W.contents out.new) (decimal n)) }
-{
-    write!(out, "{n}")
-}
-
-pub fn print_word<W: Write>(out: &mut W, n: u32) -> io::Result<()>
-    ensures { OnOk result (Appends (W.contents out.old) (W.contents out.new) (decimal n)) }
-{
-    write!(out, "{n}")
-}
-
-// A digit of base 16.
-fn hex_digit(d: u8) -> u8
-    requires { d < 16 }
-    ensures { result ≡ hex_digit_of d }
-{
-    if d < 10 {
-        return d + 48;
-    }
-    d + 87
-}
-
 // Two digits of base 16.
 pub fn print_hex_byte<W: Write>(out: &mut W, b: u8) -> io::Result<()>
     ensures { OnOk result (Appends (W.contents out.old) (W.contents out.new) (hex_byte_of b)) }
 {
-    let digits: [u8; 2] = [hex_digit(b / 16), hex_digit(b % 16)];
-    print(out, &digits)
+    write!(out, "{b:02x}")
 }
 
 // Eight digits of base 16.
 pub fn print_hex_word<W: Write>(out: &mut W, n: u32) -> io::Result<()>
     ensures { OnOk result (Appends (W.contents out.old) (W.contents out.new) (hex_word_of n)) }
 {
-    print_hex_byte(out, (n / 16777216) as u8)?;
-    print_hex_byte(out, (n / 65536 % 256) as u8)?;
-    print_hex_byte(out, (n / 256 % 256) as u8)?;
-    print_hex_byte(out, (n % 256) as u8)
+    let [a, b, c, d] = n.to_be_bytes();
+    print_hex_byte(out, a)?;
+    print_hex_byte(out, b)?;
+    print_hex_byte(out, c)?;
+    print_hex_byte(out, d)
+}
+
+// What the closure makes of the two files' bytes. A buffer has more room than a text may have bytes, so a file that is too long is
+// seen to be.
+pub fn with_pair<F: FnOnce(&[u8], &[u8]) -> io::Result<()>>(
+    rt: &impl Files,
+    plan_name: &[u8],
+    policy_name: &[u8],
+    f: F,
+) -> io::Result<()>
+    requires { F.IsAlwaysCallable f }
+    ensures { OnOk result ((plan : _) × (policy : _) × F.post f plan policy result) }
+{
+    let mut plan_room = large_buffer();
+    let mut policy_room = large_buffer();
+    let plan = read_file(rt, plan_name, &mut plan_room)?;
+    let policy = read_file(rt, policy_name, &mut policy_room)?;
+    f(plan, policy)
 }

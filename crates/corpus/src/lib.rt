@@ -2,126 +2,154 @@
 // it has calls, the next serial), then the texts.
 #![tactic(auto)]
 
-ghost use Rattle.std.specs.Prelude.{◌<◌, ◌≤◌, length, IfOk};
+ghost use Rattle.std.specs.Prelude.{◌≤◌, length, IfOk, IfSome};
 
-use std::io;
+use std::fs::File;
 use std::io::Read;
+use std::rt::Files;
+use std::{io, str};
 
-// The value of a hexadecimal digit; any other byte counts as 0.
-fn nibble(b: u8) -> usize
-    ensures { result < 16 }
-{
-    if b < 48 {
+// The number of so many hexadecimal digits; 0 where they are none.
+fn number(digits: &[u8]) -> u32 {
+    let Ok(text) = str::from_utf8(digits) else {
         return 0;
-    }
-    if b <= 57 {
-        return (b - 48) as usize;
-    }
-    if b < 97 {
-        return 0;
-    }
-    if b <= 102 {
-        return (b - 87) as usize;
-    }
-    0
+    };
+    u32::from_str_radix(text, 16).unwrap_or(0)
 }
 
-// The number of four digits from that place on; 0 where the header ends before them.
-fn number_at(header: &[u8], at: usize) -> usize
-    ensures { result < 65536 }
+// The next text, of that length, or what the file has left of it; nothing where the buffer is too small.
+fn read_text<'a>(file: &mut impl Read, buffer: &'a mut [u8], size: u32) -> io::Result<&'a [u8]>
+    ensures { IfOk result (λ text. length text.now ≤ length buffer.old) }
 {
-    if header.len() < 4 {
-        return 0;
-    }
-    if header.len() - 4 < at {
-        return 0;
-    }
-    nibble(header[at]) * 4096
-        + nibble(header[at + 1]) * 256
-        + nibble(header[at + 2]) * 16
-        + nibble(header[at + 3])
-}
-
-// How many bytes of the next text of that length are now in the buffer: fewer where the file ends.
-fn read_text(file: &mut impl Read, buffer: &mut [u8], size: usize) -> io::Result<usize>
-    ensures { IfOk result (λ n. n ≤ length buffer.new) }
-{
+    let size = size as usize;
     if buffer.len() < size {
-        return Ok(0);
+        return Ok(&[]);
     }
-    console::read_full(file, &mut buffer[0..size])
+    console::read_full(file, &mut buffer[..size])
 }
 
-// How many bytes of a case's two texts are now in the buffers; found is false where there is no case left.
+// A case's two texts.
 #[derive(Clone, Copy)]
-pub struct Pair {
-    pub found: bool,
-    pub plan: usize,
-    pub policy: usize,
+pub struct Pair<'a> {
+    pub plan: &'a [u8],
+    pub policy: &'a [u8],
 }
 
-// The next case of two texts.
-pub fn read_pair(file: &mut impl Read, plan: &mut [u8], policy: &mut [u8]) -> io::Result<Pair>
-    ensures { IfOk result (λ pair. (pair.plan ≤ length plan.new) × (pair.policy ≤ length policy.new)) }
+// The next case of two texts, if one is left.
+pub fn read_pair<'a>(
+    file: &mut impl Read,
+    plan: &'a mut [u8],
+    policy: &'a mut [u8],
+) -> io::Result<Option<Pair<'a>>>
+    ensures { IfOk result (λ found. IfSome found (λ pair. (length pair.plan.now ≤ length plan.old) × (length pair.policy.now ≤ length policy.old))) }
 {
-    let mut header: [u8; 8] = [0; 8];
-    if read_text(file, &mut header, 8)? < 8 {
-        return Ok(Pair {
-            found: false,
-            plan: 0,
-            policy: 0,
-        });
+    let mut room = [0u8; 8];
+    let header = console::read_full(file, &mut room)?;
+    if header.len() < 8 {
+        return Ok(None);
     }
-    let n = read_text(file, plan, number_at(&header, 0))?;
-    let m = read_text(file, policy, number_at(&header, 4))?;
-    Ok(Pair {
-        found: true,
-        plan: n,
-        policy: m,
-    })
+    let plan = read_text(file, plan, number(&header[0..4]))?;
+    let policy = read_text(file, policy, number(&header[4..8]))?;
+    Ok(Some(Pair { plan, policy }))
 }
 
-// How many bytes of a case's two texts and of its calls are now in the buffers, and the next serial that its box starts
-// with; found is false where there is no case left.
+// A case's two texts and its calls, and the next serial that its box starts with.
 #[derive(Clone, Copy)]
-pub struct Run {
-    pub found: bool,
-    pub plan: usize,
-    pub policy: usize,
-    pub calls: usize,
+pub struct Run<'a> {
+    pub plan: &'a [u8],
+    pub policy: &'a [u8],
+    pub calls: &'a [u8],
     pub next: u32,
 }
 
-// The next case of two texts and a list of calls. The calls' length has six digits, of which the first two are 0; the
-// next serial has eight.
-pub fn read_run(
+// The next case of two texts and a list of calls, if one is left. The calls' length has six digits, the next serial eight.
+pub fn read_run<'a>(
     file: &mut impl Read,
-    plan: &mut [u8],
-    policy: &mut [u8],
-    calls: &mut [u8],
-) -> io::Result<Run>
-    ensures { IfOk result (λ run. (run.plan ≤ length plan.new) × (run.policy ≤ length policy.new) × (run.calls ≤ length calls.new)) }
+    plan: &'a mut [u8],
+    policy: &'a mut [u8],
+    calls: &'a mut [u8],
+) -> io::Result<Option<Run<'a>>>
+    ensures { IfOk result (λ found. IfSome found (λ run. (length run.plan.now ≤ length plan.old) × (length run.policy.now ≤ length policy.old) × (length run.calls.now ≤ length calls.old))) }
 {
-    let mut header: [u8; 22] = [0; 22];
-    if read_text(file, &mut header, 22)? < 22 {
-        return Ok(Run {
-            found: false,
-            plan: 0,
-            policy: 0,
-            calls: 0,
-            next: 0,
-        });
+    let mut room = [0u8; 22];
+    let header = console::read_full(file, &mut room)?;
+    if header.len() < 22 {
+        return Ok(None);
     }
-    let n = read_text(file, plan, number_at(&header, 0))?;
-    let m = read_text(file, policy, number_at(&header, 4))?;
-    let c = read_text(file, calls, number_at(&header, 10))?;
-    let high = number_at(&header, 14) as u32;
-    let low = number_at(&header, 18) as u32;
-    Ok(Run {
-        found: true,
-        plan: n,
-        policy: m,
-        calls: c,
-        next: high * 65536 + low,
-    })
+    let plan = read_text(file, plan, number(&header[0..4]))?;
+    let policy = read_text(file, policy, number(&header[4..8]))?;
+    let calls = read_text(file, calls, number(&header[8..14]))?;
+    let next = number(&header[14..22]);
+    Ok(Some(Run {
+        plan,
+        policy,
+        calls,
+        next,
+    }))
+}
+
+// Reads the file `cases` with the closure, case by case, until it finds none left; no file is no case.
+fn for_each_case<R: Files, F: FnMut(&mut R::File) -> io::Result<Option<()>>>(
+    rt: &R,
+    mut one_case: F,
+) -> io::Result<()>
+    requires { F.IsAlwaysCallable one_case }
+{
+    let Ok(mut file) = File::open(rt, "cases") else {
+        return Ok(());
+    };
+    // A bound, since no file is known to end.
+    for _ in 0..100000u32 {
+        if one_case(&mut file)?.is_none() {
+            break;
+        }
+    }
+    Ok(())
+}
+
+// Hands the two texts of each stored case to the closure.
+pub fn for_each_pair<F: FnMut(&[u8], &[u8]) -> io::Result<()>>(
+    rt: &impl Files,
+    mut use_pair: F,
+) -> io::Result<()>
+    requires { (state : F) (plan policy : _) → F.pre state plan policy }
+{
+    for_each_case(
+        rt,
+        |file|
+            requires { (state : F) (plan policy : _) → F.pre state plan policy }
+        {
+            let mut plan = console::large_buffer();
+            let mut policy = console::large_buffer();
+            let Some(pair) = read_pair(file, &mut plan, &mut policy)? else {
+                return Ok(None);
+            };
+            use_pair(pair.plan, pair.policy)?;
+            Ok(Some(()))
+        },
+    )
+}
+
+// Hands each stored case with calls to the closure.
+pub fn for_each_run<F: FnMut(Run) -> io::Result<()>>(
+    rt: &impl Files,
+    mut use_run: F,
+) -> io::Result<()>
+    requires { (state : F) (run : _) → F.pre state run }
+{
+    for_each_case(
+        rt,
+        |file|
+            requires { (state : F) (run : _) → F.pre state run }
+        {
+            let mut plan = console::large_buffer();
+            let mut policy = console::large_buffer();
+            let mut calls = console::large_buffer();
+            let Some(run) = read_run(file, &mut plan, &mut policy, &mut calls)? else {
+                return Ok(None);
+            };
+            use_run(run)?;
+            Ok(Some(()))
+        },
+    )
 }

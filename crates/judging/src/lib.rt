@@ -27,15 +27,13 @@ pub fn print_judged<'a, W: Write>(out: &mut W, plan: &'a [u8], policy: &'a [u8])
     console::print(out, &text[0..n])
 }
 
-// A buffer for a file has more room than a text may have bytes, so a file that is too long is seen to be.
+// Prints the verdict on two files.
 pub fn judge_files(
     rt: &(impl Files + Print),
     plan_name: &[u8],
     policy_name: &[u8],
 ) -> io::Result<()> {
-    let mut plan = console::large_buffer();
-    let n = console::read_file(rt, plan_name, &mut plan)?;
-    let mut policy = console::large_buffer();
-    let m = console::read_file(rt, policy_name, &mut policy)?;
-    print_judged(&mut io::writer(rt), &plan[0..n], &policy[0..m])
+    console::with_pair(rt, plan_name, policy_name, |plan, policy| {
+        print_judged(&mut io::writer(rt), plan, policy)
+    })
 }

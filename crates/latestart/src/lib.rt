@@ -2,28 +2,29 @@
 // refusal 24.
 #![tactic(auto)]
 
+use replaying::Replayed;
 use std::io;
 use std::io::Write;
 
-fn print_replay_at<'a, W: Write>(
-    out: &mut W,
+// The calls played from that next serial on.
+fn replay_from<'a>(
     plan: &'a [u8],
     policy: &'a [u8],
-    text: &'a [u8],
     next: u32,
-) -> io::Result<()> {
-    let mut words = script::word_room();
-    let script = script::read_calls(text, &mut words);
-    let n = script.count;
-    let line = script::fault_line(text, n);
-    let mut answers = transcript::answer_room();
+    calls: &'a [u32],
+    answers: &'a mut [u8],
+) -> Replayed {
     let started = starting::start(plan, policy);
     let verdict = started.verdict;
     let mut state = started.state;
     state.next = next;
-    let r = replaying::play(state, &words[0..n], &mut answers);
-    let after = r.state;
-    runreport::print_verdict_or_run(out, verdict, &answers, r.count, after, script.fault, line)
+    let ran = replaying::play(state, calls, answers);
+    let state = ran.state;
+    Replayed {
+        verdict,
+        count: ran.count,
+        state,
+    }
 }
 
 // What replay prints, from that next serial on.
@@ -37,6 +38,8 @@ pub fn print_replay_from<'a, W: Write>(
     if next == 1 {
         transcript::print_replay(out, plan, policy, calls)
     } else {
-        print_replay_at(out, plan, policy, calls, next)
+        transcript::print_run(out, calls, |words, answers| {
+            replay_from(plan, policy, next, words, answers)
+        })
     }
 }

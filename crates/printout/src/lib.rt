@@ -1,7 +1,7 @@
 // Answers and a state as lines, as the program replay prints them.
 #![tactic(auto)]
 
-ghost use Rattle.std.specs.Prelude.{◌+◌, ◌*◌, ◌<◌, ◌≤◌, [], ◌∷◌, ◌++◌, length, take, slice_range, OnOk, codes};
+ghost use Rattle.std.specs.Prelude.{◌+◌, ◌*◌, ◌<◌, ◌≤◌, ◌∷◌, length, slice_range, OnOk};
 ghost use Rattle.std.specs.List.{flat_map};
 ghost use Rattle.std.specs.Fmt.{decimal};
 ghost use Rattle.std.specs.Io.KnownBytes.{Appends};
@@ -11,48 +11,26 @@ use machine::State;
 use std::io;
 use std::io::Write;
 
-fn print_refused<W: Write>(out: &mut W, code: u8) -> io::Result<()>
-    ensures { OnOk result (Appends (W.contents out.old) (W.contents out.new) (codes "refused " ++ decimal code ++ 10 ∷ [])) }
-{
-    console::print(out, b"refused ")?;
-    console::print_number(out, code as u64)?;
-    console::print(out, b"\n")
-}
-
+// The line of an answer's code, which the calls on lent memory answer too: 0 done, 1 delivered, 2 held, any other a refusal.
 fn print_answer<W: Write>(out: &mut W, code: u8) -> io::Result<()>
     ensures { OnOk result (Appends (W.contents out.old) (W.contents out.new) (answer_line code)) }
 {
-    if code == 0 {
-        return console::print(out, b"done\n");
+    match code {
+        0 => writeln!(out, "done"),
+        1 => writeln!(out, "delivered"),
+        2 => writeln!(out, "held"),
+        _ => writeln!(out, "refused {code}"),
     }
-    if code == 1 {
-        return console::print(out, b"delivered\n");
-    }
-    if code == 2 {
-        return console::print(out, b"held\n");
-    }
-    print_refused(out, code)
 }
 
 // Answers, each on its line.
-fn print_each<W: Write>(out: &mut W, answers: &[u8]) -> io::Result<()>
+pub fn print_answers<W: Write>(out: &mut W, answers: &[u8]) -> io::Result<()>
     ensures { OnOk result (Appends (W.contents out.old) (W.contents out.new) (answer_lines answers.now)) }
 {
     for answer in answers {
         print_answer(out, *answer)?;
     }
     Ok(())
-}
-
-// The first n answers, each on its line.
-pub fn print_answers<W: Write>(out: &mut W, answers: &[u8], n: usize) -> io::Result<()>
-    ensures { OnOk result (Appends (W.contents out.old) (W.contents out.new) (answer_lines (take n answers.now))) }
-{
-    if n < answers.len() {
-        print_each(out, &answers[0..n])
-    } else {
-        print_each(out, answers)
-    }
 }
 
 // Tags with commas between them.
@@ -62,7 +40,7 @@ fn print_tag_list<W: Write>(out: &mut W, tags: &[u32]) -> io::Result<()>
     let Some((first, others)) = tags.split_first() else {
         return Ok(());
     };
-    console::print_word(out, *first)?;
+    write!(out, "{first}")?;
     print_more_tags(out, others)
 }
 
@@ -71,8 +49,7 @@ fn print_more_tags<W: Write>(out: &mut W, tags: &[u32]) -> io::Result<()>
     ensures { OnOk result (Appends (W.contents out.old) (W.contents out.new) (flat_map (λ t. 44 ∷ decimal t) tags.now)) }
 {
     for tag in tags {
-        console::print(out, b",")?;
-        console::print_word(out, *tag)?;
+        write!(out, ",{tag}")?;
     }
     Ok(())
 }
@@ -94,13 +71,9 @@ fn print_tags<W: Write>(out: &mut W, tags: &[u32], from: usize, to: usize) -> io
 fn print_names<W: Write>(out: &mut W, serial: u32, template: u32, label: u32) -> io::Result<()>
     ensures { OnOk result (Appends (W.contents out.old) (W.contents out.new) (names_of serial template label)) }
 {
-    console::print(out, b"serial=")?;
-    console::print_word(out, serial)?;
-    console::print(out, b" template=")?;
-    console::print_word(out, template)?;
-    console::print(out, b" label=")?;
+    write!(out, "serial={serial} template={template} label=")?;
     console::print_hex_word(out, label)?;
-    console::print(out, b" tags=")
+    write!(out, " tags=")
 }
 
 // The tags of a place, of m identifiers.
@@ -127,17 +100,14 @@ fn print_line<W: Write>(out: &mut W, state: &State, place: u32) -> io::Result<()
     let k = arrays::index(place);
     print_names(out, state.serials[k], state.templates[k], state.labels[k])?;
     print_row(out, &state.tags, place, state.plan.identifiers)?;
-    console::print(out, b"\n")?;
+    writeln!(out)?;
     Ok(())
 }
 
 fn print_process<W: Write>(out: &mut W, state: &State, place: u32) -> io::Result<()>
     ensures { OnOk result (Appends (W.contents out.old) (W.contents out.new) (process_line_at state.now place)) }
 {
-    if 32 < state.plan.identifiers {
-        return Ok(());
-    }
-    if 128 <= place {
+    if 32 < state.plan.identifiers || 128 <= place {
         return Ok(());
     }
     print_line(out, state, place)
@@ -147,11 +117,7 @@ fn print_process<W: Write>(out: &mut W, state: &State, place: u32) -> io::Result
 fn print_counts<W: Write>(out: &mut W, state: &State) -> io::Result<()>
     ensures { OnOk result (Appends (W.contents out.old) (W.contents out.new) (counts_line state.now)) }
 {
-    console::print(out, b"next=")?;
-    console::print_number(out, state.next as u64)?;
-    console::print(out, b" live=")?;
-    console::print_number(out, state.live as u64)?;
-    console::print(out, b"\n")
+    writeln!(out, "next={} live={}", state.next, state.live)
 }
 
 // Each live process on its line.

@@ -5,16 +5,9 @@
 use std::io;
 
 fn main(rt: HostRuntime) -> io::Result<()> {
-    let mut plan = console::large_buffer();
-    let n = console::read_file(&rt, b"plan.txt", &mut plan)?;
-    let mut policy = console::large_buffer();
-    let m = console::read_file(&rt, b"policy.txt", &mut policy)?;
-    let mut text = script::text_room();
-    let t = console::read_file(&rt, b"calls.txt", &mut text)?;
-    transcript::print_replay(
-        &mut io::writer(&rt),
-        &plan[0..n],
-        &policy[0..m],
-        &text[0..t],
-    )
+    console::with_pair(&rt, b"plan.txt", b"policy.txt", |plan, policy| {
+        let mut room = script::text_room();
+        let text = console::read_file(&rt, b"calls.txt", &mut room)?;
+        transcript::print_replay(&mut io::writer(&rt), plan, policy, text)
+    })
 }

@@ -1,12 +1,12 @@
--- Bytes appended to a list from a place on: a turn of the loop that copies, and parts one after the other.
-use Prim.Native.Nat.{ℕ, suc, ◌+◌, ◌≤◌, ◌<◌}
-use mathlib.Core.Path.{◌≡◌, sym, ap, ◌∙◌, subst}
-use mathlib.Core.List.{List, [], ◌∷◌, ◌++◌, append-nil}
+-- Bytes appended to a list from a place on, and parts one after the other.
+use Prim.Native.Nat.{ℕ, suc, ◌+◌, ◌-◌, ◌≤◌}
+use mathlib.Core.Path.{◌≡◌, refl, sym, ap, ◌∙◌, subst}
+use mathlib.Core.List.{List, [], ◌∷◌, ◌++◌, append-nil, append_assoc}
+use borrow.Rule.Slice.PartMut.{put_mid, Post-is}
 use native.Mathlib.Nat.{add-zero, zero-add, suc-add, add-suc}
-use native.Mathlib.Numerals.{add-one}
 use native.Mathlib.Omega.{arith}
-use lib.ListN.{length, get_or, set, drop, length-append, drop_of_length-le}
-use lib.Seq.{sets, sets-eq, drop-cons}
+use lib.ListN.{length, set, take, drop, length-append}
+use lib.Seq.{sets, sets-eq}
 use Rattle.report.specs.Lines.{Appends}
 
 sets_append : (xs : List ℕ) (at : ℕ) (a b : List ℕ) → sets xs at (a ++ b) ≡ sets (sets xs at a) (at + length a) b
@@ -15,27 +15,18 @@ sets_append xs at (v ∷ a) b =
     sets_append (set xs at v) (suc at) a b
     ∙ ap (λ (k : ℕ). sets (sets (set xs at v) (suc at) a) k b) (suc-add at (length a) ∙ sym (add-suc at (length a)))
 
--- ---- the loop that copies
+-- ---- a part that becomes the bytes
 
-module _ (bytes : List ℕ) where
-  pub copy_turn : (out : List ℕ) (at i : ℕ) → i < length bytes
-      → sets (set out (at + i) (get_or bytes i 0)) (at + (i + 1)) (drop (i + 1) bytes) ≡ sets out (at + i) (drop i bytes)
-  copy_turn out at i h =
-      let v = get_or bytes i 0 in
-      let e : at + (i + 1) ≡ suc (at + i) = omega arith in
-      ap (λ (k : ℕ). sets (set out (at + i) v) k (drop (i + 1) bytes)) e
-      ∙ ap (λ (k : ℕ). sets (set out (at + i) v) (suc (at + i)) (drop k bytes)) (add-one i)
-      ∙ ap (λ (l : List ℕ). sets out (at + i) l) (sym (drop-cons bytes i 0 h))
-
-  pub copy_onset : (out : List ℕ) (at : ℕ) → sets out (at + 0) bytes ≡ sets out at bytes
-  copy_onset out at = ap (λ (k : ℕ). sets out k bytes) (add-zero at)
-
-  pub copied : (xs out : List ℕ) (at i : ℕ) → i ≤ length bytes → length bytes ≤ i → sets out (at + i) (drop i bytes) ≡ sets xs at bytes
-      → Appends xs at bytes out (at + i)
-  copied xs out at i h l e = record {
-    next = omega (arith, h, l);
-    left = ap (λ (l : List ℕ). sets out (at + i) l) (sym (drop_of_length-le bytes l)) ∙ e;
-  }
+pub copied : (xs bytes ys : List ℕ) (at : ℕ) → at + length bytes ≤ length xs → ys ≡ bytes
+    → Appends xs at bytes (put_mid at (at + length bytes - at) xs ys) (at + length bytes)
+copied xs bytes ys at h e =
+    let after = Post-is at (at + length bytes) xs (omega arith) in
+    record {
+      next = refl;
+      left =
+          ap (λ (l : List ℕ). put_mid at (at + length bytes - at) xs l) e ∙ ap (λ (l : List ℕ). take at xs ++ (bytes ++ l)) after
+          ∙ sym (append_assoc (take at xs) bytes (drop (at + length bytes) xs)) ∙ sym (sets-eq bytes xs at h);
+    }
 
 -- ---- parts one after the other
 

@@ -1,7 +1,7 @@
 // What a run of calls is printed as: the run of an accepted pair, or the verdict on another.
 #![tactic(auto)]
 
-ghost use Rattle.std.specs.Prelude.{take, OnOk};
+ghost use Rattle.std.specs.Prelude.{OnOk};
 ghost use Rattle.std.specs.Io.KnownBytes.{Appends};
 ghost use Rattle.rules.specs.Judge.{printed};
 ghost use Rattle.runreport.specs.Run.{fault_line, run_lines, verdict_or_run};
@@ -16,24 +16,20 @@ use std::io::Write;
 fn print_fault<W: Write>(out: &mut W, line: u64) -> io::Result<()>
     ensures { OnOk result (Appends (W.contents out.old) (W.contents out.new) (fault_line line)) }
 {
-    console::print(out, b"unread ")?;
-    console::print_figure(out, b"line=", line)?;
-    Ok(())
+    writeln!(out, "unread line={line}")
 }
 
 // The answers, and then the state, or the line that is no call.
 fn print_run<W: Write>(
     out: &mut W,
     answers: &[u8],
-    count: usize,
     state: State,
-    fault: bool,
-    line: u64,
+    fault: Option<u64>,
 ) -> io::Result<()>
-    ensures { OnOk result (Appends (W.contents out.old) (W.contents out.new) (run_lines (take count answers.now) state fault line)) }
+    ensures { OnOk result (Appends (W.contents out.old) (W.contents out.new) (run_lines answers.now state fault)) }
 {
-    printout::print_answers(out, answers, count)?;
-    if fault {
+    printout::print_answers(out, answers)?;
+    if let Some(line) = fault {
         return print_fault(out, line);
     }
     printout::print_state(out, state)
@@ -53,15 +49,13 @@ pub fn print_verdict_or_run<W: Write>(
     out: &mut W,
     verdict: Verdict,
     answers: &[u8],
-    count: usize,
     state: State,
-    fault: bool,
-    line: u64,
+    fault: Option<u64>,
 ) -> io::Result<()>
-    ensures { OnOk result (Appends (W.contents out.old) (W.contents out.new) (verdict_or_run verdict (take count answers.now) state fault line)) }
+    ensures { OnOk result (Appends (W.contents out.old) (W.contents out.new) (verdict_or_run verdict answers.now state fault)) }
 {
     if let Verdict::Accepted = verdict {
-        print_run(out, answers, count, state, fault, line)
+        print_run(out, answers, state, fault)
     } else {
         print_verdict(out, verdict)
     }

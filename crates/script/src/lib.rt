@@ -3,80 +3,53 @@
 
 ghost use Rattle.std.specs.Prelude.{◌≤◌, ◌≡◌, length};
 
+use callline::Call;
+
 // The longest text of calls.
 const LONGEST: usize = 65536;
 
-// One word, where there is room for it.
-fn put(words: &mut [u32], at: usize, word: u32) {
-    if at < words.len() {
-        words[at] = word;
-    }
-}
-
-// How many words were written; fault: the line after those calls is none.
+// The words of the calls, and the line after them where that is no call.
 #[derive(Clone, Copy)]
-pub struct Script {
-    pub count: usize,
-    pub fault: bool,
+pub struct Script<'a> {
+    pub words: &'a [u32],
+    pub fault: Option<u64>,
 }
 
-// The calls of a text, up to the first line that is no call.
-fn read_lines(text: &[u8], words: &mut [u32]) -> Script
-    ensures { result.count ≤ length words.new }
+// The call of a line that byte 10 ends.
+fn read_ended(line: &[u8]) -> Option<Call> {
+    callline::read_line(line.strip_suffix(b"\n")?)
+}
+
+// How many words the calls of a text have, up to the first line that is no call, and that line.
+fn read_lines(text: &[u8], words: &mut [u32]) -> (usize, Option<u64>)
+    ensures { result.0 ≤ length words.new }
 {
-    let mut at = 0;
     let mut count = 0;
-    while at < text.len() {
-        let n = scan::find(&text[at..], 10);
-        if text.len() - at <= n {
-            return Script {
-                count: count,
-                fault: true,
-            };
-        }
-        let callline::Line::Call(kind, x, y) = callline::read_line(&text[at..at + n]) else {
-            return Script {
-                count: count,
-                fault: true,
-            };
+    for line in text.split_inclusive(|b| *b == b'\n') {
+        let (Some(call), true) = (read_ended(line), 3 <= words.len() - count) else {
+            return (count, Some((count / 3) as u64 + 1));
         };
-        if words.len() - count < 3 {
-            return Script {
-                count: count,
-                fault: true,
-            };
-        }
-        put(words, count, kind);
-        put(words, count + 1, x);
-        put(words, count + 2, y);
+        words[count..count + 3].copy_from_slice(&<[u32; 3]>::from(call));
         count += 3;
-        at += n + 1;
     }
-    Script {
-        count: count,
-        fault: false,
-    }
+    (count, None)
 }
 
-// The words of the calls; a text that is too long is one fault, at line 0.
-pub fn read_calls(text: &[u8], words: &mut [u32]) -> Script
-    ensures { result.count ≤ length words.new }
+// The calls of a text, and their words in the buffer; a text that is too long is one fault, at line 0.
+pub fn read_calls<'a>(text: &[u8], words: &'a mut [u32]) -> Script<'a>
+    ensures { length result.words.now ≤ length words.old }
 {
     if LONGEST < text.len() {
         return Script {
-            count: 0,
-            fault: true,
+            words: &[],
+            fault: Some(0),
         };
     }
-    read_lines(text, words)
-}
-
-// The line of a fault after so many words.
-pub fn fault_line(text: &[u8], count: usize) -> u64 {
-    if LONGEST < text.len() {
-        return 0;
+    let (count, fault) = read_lines(text, words);
+    Script {
+        words: &words[..count],
+        fault,
     }
-    (count / 3) as u64 + 1
 }
 
 // Room for the words of the longest text of calls.

@@ -17,9 +17,7 @@ fn print_shown<'a, W: Write>(out: &mut W, plan: &'a [u8], policy: &'a [u8]) -> i
 }
 
 fn main(rt: HostRuntime) -> io::Result<()> {
-    let mut plan = console::large_buffer();
-    let n = console::read_file(&rt, b"plan.txt", &mut plan)?;
-    let mut policy = console::large_buffer();
-    let m = console::read_file(&rt, b"policy.txt", &mut policy)?;
-    print_shown(&mut io::writer(&rt), &plan[0..n], &policy[0..m])
+    console::with_pair(&rt, b"plan.txt", b"policy.txt", |plan, policy| {
+        print_shown(&mut io::writer(&rt), plan, policy)
+    })
 }

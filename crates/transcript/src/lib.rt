@@ -3,8 +3,11 @@
 // ends the run.
 #![tactic(auto)]
 
-ghost use Rattle.std.specs.Prelude.{◌≡◌, length};
+ghost use Rattle.std.specs.Prelude.{◌≡◌, ◌≤◌, length, take, OnOk};
+ghost use Rattle.std.specs.Io.KnownBytes.{Appends};
+ghost use Rattle.runreport.specs.Run.{verdict_or_run};
 
+use replaying::Replayed;
 use std::io;
 use std::io::Write;
 
@@ -15,19 +18,44 @@ pub fn answer_room() -> [u8; 8192]
     [0; 8192]
 }
 
+// A run whose answers stand at the row's start.
+fn print_replayed<W: Write>(
+    out: &mut W,
+    run: Replayed,
+    answers: &[u8],
+    fault: Option<u64>,
+) -> io::Result<()>
+    ensures { run.count ≤ length answers.now
+        → OnOk result (Appends (W.contents out.old) (W.contents out.new) (verdict_or_run run.verdict (take run.count answers.now) run.state fault)) }
+{
+    let count = run.count.min(answers.len());
+    let verdict = run.verdict;
+    let state = run.state;
+    runreport::print_verdict_or_run(out, verdict, &answers[..count], state, fault)
+}
+
+// Prints what the closure makes of the calls of a text; it writes their answers to the row.
+pub fn print_run<W: Write, F: FnOnce(&[u32], &mut [u8]) -> Replayed>(
+    out: &mut W,
+    text: &[u8],
+    run: F,
+) -> io::Result<()>
+    requires { F.IsAlwaysCallable run }
+{
+    let mut words = script::word_room();
+    let script = script::read_calls(text, &mut words);
+    let mut answers = answer_room();
+    let replayed = run(script.words, &mut answers);
+    print_replayed(out, replayed, &answers, script.fault)
+}
+
 pub fn print_replay<'a, W: Write>(
     out: &mut W,
     plan: &'a [u8],
     policy: &'a [u8],
     text: &'a [u8],
 ) -> io::Result<()> {
-    let mut words = script::word_room();
-    let script = script::read_calls(text, &mut words);
-    let n = script.count;
-    let line = script::fault_line(text, n);
-    let mut answers = answer_room();
-    let r = replaying::replay(plan, policy, &words[0..n], &mut answers);
-    let verdict = r.verdict;
-    let state = r.state;
-    runreport::print_verdict_or_run(out, verdict, &answers, r.count, state, script.fault, line)
+    print_run(out, text, |calls, answers| {
+        replaying::replay(plan, policy, calls, answers)
+    })
 }

@@ -11,4 +11,4 @@ returns g c =
     let s = c.args.state.now in
     let names = subst (λ (k : ℕ). Appends (g.W.Write.contents c.args.out.now) (g.W.Write.contents c.print_names.new.out)
     (names_of (slice_index s.serials k) (slice_index s.templates k) (slice_index s.labels k))) c.index-k.ensures c.in_ok-print_names.ensures in
-    Appends-trans _ _ _ _ _ (Appends-trans _ _ _ _ _ names c.in_ok-print_row.ensures) c.in_ok-print.ensures
+    Appends-trans _ _ _ _ _ (Appends-trans _ _ _ _ _ names c.in_ok-print_row.ensures) c.in_ok-writeln.ensures.bytes
