@@ -45,20 +45,14 @@ pub fn monitor_start<'a>(
         Starts plan.now policy.now words.new row.new k }
 {
     let begun = starting::start(plan, policy);
-    let verdict = begun.verdict;
     let state = begun.state;
-    *words = words::verdict_words(verdict);
-    let read = state.plan;
-    *row = encoding::row_of(read);
+    *words = words::verdict_words(begun.verdict);
+    *row = encoding::row_of(state.plan);
     *place = [state.next, state.live];
-    let s = state.serials;
-    *serials = s;
-    let t = state.templates;
-    *templates = t;
-    let l = state.labels;
-    *labels = l;
-    let g = state.tags;
-    *tags = g;
+    *serials = state.serials;
+    *templates = state.templates;
+    *labels = state.labels;
+    *tags = state.tags;
 }
 
 // One call: its kind (0 step, 1 send, 2 raise, any other number lower) and its two numbers.
@@ -109,7 +103,6 @@ pub fn monitor_replay<'a>(
     ensures { ReplayedAll plan.now policy.now calls.now answers.old words.new result answers.new }
 {
     let replayed = replaying::replay(plan, policy, calls, answers);
-    let verdict = replayed.verdict;
-    *words = words::verdict_words(verdict);
+    *words = words::verdict_words(replayed.verdict);
     replayed.count
 }
