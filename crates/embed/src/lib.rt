@@ -49,10 +49,15 @@ pub fn monitor_start<'a>(
     *words = words::verdict_words(begun.verdict);
     *row = encoding::row_of(state.plan);
     *place = [state.next, state.live];
-    *serials = state.serials;
-    *templates = state.templates;
-    *labels = state.labels;
-    *tags = state.tags;
+    // By way of variables: the borrow checker takes no array straight from a field.
+    let s = state.serials;
+    *serials = s;
+    let t = state.templates;
+    *templates = t;
+    let l = state.labels;
+    *labels = l;
+    let g = state.tags;
+    *tags = g;
 }
 
 // One call: its kind (0 step, 1 send, 2 raise, any other number lower) and its two numbers.
