@@ -9,6 +9,7 @@ use native.Mathlib.Nat.{not-suc-le-zero, le_refl, le_trans, zero-add}
 use native.Mathlib.Numerals.{unary_clauses}
 use native.Mathlib.Omega.{arith}
 use lib.ListN.{length, get_or}
+use mir.Val.{bool_byte}
 use lib.Dec.{ltb, leb, eqb}
 use borrow.Author.Tests.{le-leb, ltb-false, ltb-true, ne_eqb, eq-eqb}
 use Rattle.lists.specs.Numbers.{every, lowest}
@@ -41,10 +42,10 @@ module _ (xs : List ℕ) (from n : ℕ) (up : rises xs from n ≡ true) where
       subst (λ (k : ℕ). get_or xs (from + i) 0 < get_or xs (from + k) 0) e (greater i (j - i - 1) (omega arith))
 
   -- One turn: where number i is below s, all before it are.
-  -- k is i as an index, t the answer of `one_if`.
-  pub split_more : (s low i k t : ℕ) → low ≤ i → i < n → k ≡ i → Split xs from i s low → t ≡ cond (ltb (get_or xs (from + k) 0) s) 1 0 → Split xs from (i + 1) s (low + t)
-  split_more s low i k t few l ek p et =
-      subst (λ (t : ℕ). Split xs from (i + 1) s (low + t)) (sym (et ∙ ap (λ (k : ℕ). cond (ltb (get_or xs (from + k) 0) s) 1 0) ek)) (pick (ltb (get_or xs (from + i) 0) s) refl)
+  -- t is 1 where number i is below s, else 0.
+  pub split_more : (s low i t : ℕ) → low ≤ i → i < n → Split xs from i s low → t ≡ cond (ltb (get_or xs (from + i) 0) s) 1 0 → Split xs from (i + 1) s (low + t)
+  split_more s low i t few l p et =
+      subst (λ (t : ℕ). Split xs from (i + 1) s (low + t)) (sym et) (pick (ltb (get_or xs (from + i) 0) s) refl)
     where
       pick : (b : Bool) → ltb (get_or xs (from + i) 0) s ≡ b → Split xs from (i + 1) s (low + cond b 1 0)
       pick true e =
@@ -84,47 +85,47 @@ module _ (xs : List ℕ) (from n : ℕ) (up : rises xs from n ≡ true) where
             ⊎_elim (λ h. let a = above low i h l in omega (arith, a, q, first))
             (λ h. let e : i ≡ low = omega arith in ne (subst (λ (j : ℕ). get_or xs (from + j) 0 ≡ s) e q)) (lt_or_le low i)
 
+-- A test as a number: 1 where it passed, so that a loop that adds these up has no branch.
+pub one_if : (b : Bool) → bool_byte b ≡ cond b 1 0
+one_if true = refl
+one_if false = refl
+
+pub one_at_most : (b : Bool) → bool_byte b ≤ 1
+one_at_most true = omega arith
+one_at_most false = omega arith
+
 pub split_start : (xs : List ℕ) (from s : ℕ) → Split xs from 0 s 0
 split_start xs from s = record {
   under = λ i l. absurd (not-suc-le-zero l);
   over = λ i h l. absurd (not-suc-le-zero l);
 }
 
--- As the code meets it: all is n as an index, w the answer of `is_within`, low that of `count_below` as an index.
-module _ (xs : List ℕ) (from n s all : ℕ) (en : all ≡ n) (w : Bool) (e : w ≡ leb (from + all) (length xs)) where
-  in_range : w ≡ leb (from + n) (length xs)
-  in_range = e ∙ ap (λ (n : ℕ). leb (from + n) (length xs)) en
+-- As the code meets it: w is the answer of `is_within`, low that of `count_below`.
+module _ (xs : List ℕ) (from n s : ℕ) (w : Bool) (e : w ≡ leb (from + n) (length xs)) where
+  nowhere : (rises xs from n ≡ true → n ≡ lowest n (λ i. eqb (get_or xs (from + i) 0) s)) → Located xs from n s n
+  nowhere h = record { few = le_refl n; there = λ l. absurd (omega (arith, l)); first = h }
 
-  nowhere : (rises xs from n ≡ true → n ≡ lowest n (λ i. eqb (get_or xs (from + i) 0) s)) → Located xs from n s all
-  nowhere h = record { few = omega (arith, en); there = λ l. absurd (omega (arith, en, l)); first = λ up. en ∙ h up }
-
-  pub located_out : not w ≡ true → Located xs from n s all
-  located_out h = nowhere (λ up. absurd (range_falls xs from n w in_range h up))
+  pub located_out : not w ≡ true → Located xs from n s n
+  located_out h = nowhere (λ up. absurd (range_falls xs from n w e h up))
 
   module _ (h : not w ≡ false) where
-    pub located_there : from + n ≤ length xs
-    located_there = range_there xs from n w in_range h
+    located_there : from + n ≤ length xs
+    located_there = range_there xs from n w e h
 
-    module _ (low count : ℕ) (el : low ≡ count) (p : (count ≤ n) × (rises xs from n ≡ true → Split xs from n s count)) where
-      split : rises xs from n ≡ true → Split xs from n s low
-      split up = subst (λ (c : ℕ). Split xs from n s c) (sym el) (p.1 up)
+    module _ (low : ℕ) (p : (low ≤ n) × (rises xs from n ≡ true → Split xs from n s low)) where
+      pub located_past : n ≤ low → Located xs from n s n
+      located_past l = nowhere (λ up. split_past xs from n up s low (p.1 up) l)
 
-      pub located_past : all ≤ low → Located xs from n s all
-      located_past l = nowhere (λ up. split_past xs from n up s low (split up) (omega (arith, en, l)))
-
-      module _ (l : low < all) where
-        pub located_place : from + low < length xs
-        located_place = let q = located_there in omega (arith, en, l, q)
-
+      module _ (l : low < n) where
         pub located_found : get_or xs (from + low) 0 ≡ s → Located xs from n s low
         located_found q = record {
-          few = omega (arith, en, l);
+          few = omega (arith, l);
           there = λ k. located_there;
-          first = λ up. split_found xs from n up s low (split up) (omega (arith, en, l)) q;
+          first = λ up. split_found xs from n up s low (p.1 up) l q;
         }
 
-        pub located_none : (get_or xs (from + low) 0 ≡ s → ⊥) → Located xs from n s all
-        located_none q = nowhere (λ up. split_none xs from n up s low (split up) q (omega (arith, en, l)))
+        pub located_none : (get_or xs (from + low) 0 ≡ s → ⊥) → Located xs from n s n
+        located_none q = nowhere (λ up. split_none xs from n up s low (p.1 up) q l)
 
 -- ---- for callers: a range that begins at 0
 

@@ -1,6 +1,6 @@
 -- Where a serial stands among the numbers of a lent array. A range is n places from `from` on.
 -- Not to be believed: nothing is stated of an operation by these alone.
-use Rattle.std.specs.Prelude.{ℕ, ◌+◌, ◌≤◌, ◌<◌, ◌≡◌, true, List, get_or, length, eqb}
+use Rattle.std.specs.Prelude.{ℕ, ◌+◌, ◌≤◌, ◌<◌, ◌≡◌, true, List, get_or, length, eqb, Option, None, Some}
 use Rattle.lists.specs.Numbers.{lowest}
 use Rattle.ranges.specs.Ranges.{rises}
 
@@ -15,3 +15,8 @@ pub record Located (xs : List ℕ) (from n s r : ℕ) : Type 0 where
   pub few : r ≤ n
   pub there : r < n → from + n ≤ length xs
   pub first : rises xs from n ≡ true → r ≡ lowest n (λ i. eqb (get_or xs (from + i) 0) s)
+
+-- The place found, and the number of places where none is.
+abbrev pub place_or : ℕ → Option ℕ → ℕ
+place_or n None = n
+place_or n (Some k) = k

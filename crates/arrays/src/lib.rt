@@ -2,16 +2,9 @@
 // end.
 #![tactic(auto)]
 
-ghost use Rattle.std.specs.Prelude.{◌≡◌, true, cond, ◌≤◌, ◌+◌, length, set};
+ghost use Rattle.std.specs.Prelude.{◌≡◌, true, ◌≤◌, ◌<◌, ◌+◌, length, set, IfSome};
 ghost use Rattle.ranges.specs.Ranges.{rises};
-ghost use Rattle.arrays.specs.Places.{Split, Located};
-
-// A word as an index.
-pub fn index(x: u32) -> usize
-    ensures { result ≡ x }
-{
-    x as usize
-}
+ghost use Rattle.arrays.specs.Places.{Split, Located, place_or};
 
 // Stores at a place; past the end nothing.
 pub fn put(xs: &mut [u32], at: usize, v: u32)
@@ -22,13 +15,6 @@ pub fn put(xs: &mut [u32], at: usize, v: u32)
     }
 }
 
-// 1 where the test passed: a loop that adds these up has no branch.
-fn one_if(passed: bool) -> u32
-    ensures { (result ≡ cond passed 1 0) × (result ≤ 1) }
-{
-    if passed { 1 } else { 0 }
-}
-
 // How many of n rising numbers are below the serial. Counting all of them on vectors takes less time than a search by halves,
 // whose branches cannot be foretold.
 fn count_below(xs: &[u32], from: usize, n: u32, serial: u32) -> u32
@@ -36,28 +22,27 @@ fn count_below(xs: &[u32], from: usize, n: u32, serial: u32) -> u32
     ensures { (result ≤ n) × (rises xs.now from n ≡ true → Split xs.now from n serial result) }
 {
     let mut below: u32 = 0;
-    let mut i: u32 = 0;
-    while i < n {
-        below = below + one_if(xs[from + index(i)] < serial);
-        i += 1;
+    for i in 0..n {
+        below += (xs[from + i as usize] < serial) as u32;
     }
     below
 }
 
-// The place of a serial among n rising numbers, counted from `from` on, and n where none has it.
-pub fn place_of(xs: &[u32], from: usize, n: u32, serial: u32) -> usize
-    ensures { Located xs.now from n serial result }
+// The place of a serial among n rising numbers, counted from `from` on.
+pub fn place_of(xs: &[u32], from: usize, n: u32, serial: u32) -> Option<usize>
+    ensures place { Located xs.now from n serial (place_or n result) }
+    ensures found { IfSome result (λ k. k < n) }
 {
-    let all = index(n);
+    let all = n as usize;
     if !ranges::is_within(xs.len(), from, all) {
-        return all;
+        return None;
     }
-    let low = index(count_below(xs, from, n, serial));
+    let low = count_below(xs, from, n, serial) as usize;
     if all <= low {
-        return all;
+        return None;
     }
     if xs[from + low] == serial {
-        return low;
+        return Some(low);
     }
-    all
+    None
 }

@@ -7,3 +7,4 @@ pub mod Put
 pub mod Length
 pub mod Written
 pub mod Chosen
+pub mod Parts

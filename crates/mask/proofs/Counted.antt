@@ -1,5 +1,5 @@
 -- How many masks there are over m identifiers, as the code meets it: r is the answer of `mask_count`.
-use Prim.Native.Nat.{ℕ, ◌+◌, ◌-◌, ◌%◌, ◌*◌, ◌^◌, ◌≤◌, ◌<◌, min}
+use Prim.Native.Nat.{ℕ, ◌+◌, ◌-◌, ◌%◌, ◌*◌, ◌^◌, ◌≤◌, min}
 use mathlib.Core.Path.{◌≡◌, ap, ◌∙◌}
 use native.Mathlib.Omega.{arith}
 use lib.Pow.{pow_pos, pow_mono}
@@ -11,14 +11,9 @@ use Rattle.mask.proofs.Shifted.{one_shifted}
 pub count_few : (m r : ℕ) → m ≤ 32 → r ≡ 2 ^ min m 32 → r ≡ 2 ^ m
 count_few m r h e = let q : min m 32 ≡ m = omega arith in e ∙ ap (λ (k : ℕ). 2 ^ k) q
 
--- 1 moved up by m, in 64 digits.
-pub count_shifted : (m : ℕ) → m < 32 → 1 * 2 ^ m % 2 ^ 64 ≡ 2 ^ min m 32
-count_shifted m h =
-    let q : m ≡ min m 32 = omega arith in
-    one_shifted 64 m (omega arith) ∙ ap (λ (k : ℕ). 2 ^ k) q
-
-pub count_most : (m : ℕ) → 32 ≤ m → 4294967296 ≡ 2 ^ min m 32
-count_most m h = let q : 32 ≡ min m 32 = omega arith in ap (λ (k : ℕ). 2 ^ k) q
+-- 1 moved up by w, the lesser of m and 32, in 64 digits.
+pub count_shifted : (m w : ℕ) → w ≡ min m 32 → 1 * 2 ^ w % 2 ^ 64 ≡ 2 ^ min m 32
+count_shifted m w e = one_shifted 64 w (omega arith) ∙ ap (λ (k : ℕ). 2 ^ k) e
 
 -- The greatest mask of m identifiers.
 module _ (m r : ℕ) (e : r ≡ 2 ^ min m 32) where

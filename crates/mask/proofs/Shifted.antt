@@ -12,7 +12,7 @@ use Rattle.lists.proofs.Tests.{lt_or_le, passes_fails}
 use Rattle.mask.specs.Mask.{has, plus}
 use Rattle.mask.specs.Sets.{plus_below, shifted}
 use Rattle.mask.proofs.Digits.{is_one}
-use Rattle.mask.proofs.Items.{has_zero, has-suc, plus-below}
+use Rattle.mask.proofs.Items.{has_zero, has-suc, plus-below, plus_lt}
 
 double : (n m : ℕ) → shifted (suc n) m ≡ shifted n m * 2
 unfolding shifted
@@ -71,7 +71,19 @@ shifted_past k n m h =
 pub one_shifted : (k i : ℕ) → i < k → 1 * 2 ^ i % 2 ^ k ≡ 2 ^ i
 one_shifted k i h = ap (λ (x : ℕ). x % 2 ^ k) (one-mul (2 ^ i)) ∙ mod-eq_of_lt (pow-lt {j = k} h)
 
--- The code's way to add it.
-pub one_added : (k m i : ℕ) → i < k → bit_or m (1 * 2 ^ i % 2 ^ k) ≡ plus_below k m i
-unfolding plus
-one_added k m i h = ap (bit_or m) (one_shifted k i h) ∙ sym (plus-below k m i h)
+-- The code's way to add it, in a width of at most w digits.
+module _ (k w m i : ℕ) (h : i < k) (l : k ≤ w) where
+  pub one_added : bit_or m (1 * 2 ^ i % 2 ^ w) ≡ plus_below k m i
+  unfolding plus
+  one_added = ap (bit_or m) (one_shifted w i (lt_of_lt_of_le h l)) ∙ sym (plus-below k m i h)
+
+  pub one_fits : m < 2 ^ k → bit_or m (1 * 2 ^ i % 2 ^ w) < 2 ^ k
+  unfolding plus
+  one_fits f = rw (one_shifted w i (lt_of_lt_of_le h l)) (plus_lt k m i f h)
+
+-- The code's way to move all of a mask of k digits, in twice as many as 64.
+pub all_shifted : (k n m : ℕ) → n < k → k ≤ 64 → m < 2 ^ k → m * 2 ^ n % 2 ^ 128 % (1 * 2 ^ k % 2 ^ 128) ≡ shifted n m % 2 ^ k
+unfolding shifted
+all_shifted k n m h l f =
+    ap (λ (x : ℕ). m * 2 ^ n % 2 ^ 128 % x) (one_shifted 128 k (omega arith))
+    ∙ ap (λ (x : ℕ). x % 2 ^ k) (shifted_fits k 128 n m f (omega arith))

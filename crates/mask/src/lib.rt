@@ -1,29 +1,98 @@
 // Sets of small numbers as masks: identifiers in 32 bits, templates in 64.
 #![tactic(auto)]
 
-ghost use Rattle.std.specs.Prelude.{◌≡◌, ◌+◌, ◌%◌, ◌^◌, min};
+ghost use Rattle.std.specs.Prelude.{◌≡◌, ℕ, ◌+◌, ◌%◌, ◌^◌, ◌<◌, ◌≤◌, min};
+ghost use Rattle.std.proofs.Common.{rules};
 ghost use Rattle.lists.specs.Numbers.{lowest};
 ghost use Rattle.mask.specs.Mask.{has, without};
 ghost use Rattle.mask.specs.Sets.{plus_below, shifted};
 
-// Whether item i is in the mask m; nothing stands at or past the width.
-pub fn contains_u32(m: u32, i: u32) -> bool
-    ensures { result ≡ has i m }
-{
-    if 32 <= i {
-        return false;
+// A number as a set: item i is in it where its digit i is 1. No item stands at or past the width, which has at most 64.
+pub trait Mask: Copy {
+    const WIDTH: u32;
+
+    ghost WIDTH: { ℕ };
+
+    // The number itself.
+    ghost bits: { Self → ℕ };
+
+    fn widen(self) -> u64
+        ensures value { result ≡ bits self }
+        ensures fits { result < 2 ^ WIDTH };
+
+    fn narrow(wide: u64) -> Self
+        requires { wide < 2 ^ WIDTH }
+        ensures { bits result ≡ wide };
+
+    ghost narrow_enough: { WIDTH ≤ 64 };
+
+    // Whether item i is in the mask.
+    final fn contains(self, i: u32) -> bool
+        ensures { result ≡ has i (bits self) }
+    {
+        let wide = self.widen();
+        if Self::WIDTH <= i {
+            return false;
+        }
+        (wide >> i) % 2 == 1
     }
-    (m >> i) % 2 == 1
+
+    // The items, and i where it is below the width.
+    final fn insert(self, i: u32) -> Self
+        ensures { bits result ≡ plus_below WIDTH (bits self) i }
+    {
+        if Self::WIDTH <= i {
+            return self;
+        }
+        Self::narrow(self.widen() | 1 << i)
+    }
+
+    // The items, each n higher; those that come to stand past the width are lost.
+    final fn shift(self, n: u32) -> Self
+        ensures { bits result ≡ shifted n (bits self) % 2 ^ WIDTH }
+    {
+        if Self::WIDTH <= n {
+            return Self::narrow(0);
+        }
+        let higher = (self.widen() as u128) << n;
+        Self::narrow((higher % (1 << Self::WIDTH)) as u64)
+    }
 }
 
-// Whether item x is in the mask m; nothing stands at or past the width.
-pub fn contains_u64(m: u64, x: u8) -> bool
-    ensures { result ≡ has x m }
-{
-    if 64 <= x {
-        return false;
+impl Mask for u32 {
+    const WIDTH: u32 = 32;
+
+    ghost WIDTH = { 32 };
+
+    ghost bits = { λ m. m };
+
+    ghost narrow_enough = { Prim.search rules };
+
+    fn widen(self) -> u64 {
+        self as u64
     }
-    (m >> x) % 2 == 1
+
+    fn narrow(wide: u64) -> u32 {
+        wide as u32
+    }
+}
+
+impl Mask for u64 {
+    const WIDTH: u32 = 64;
+
+    ghost WIDTH = { 64 };
+
+    ghost bits = { λ m. m };
+
+    ghost narrow_enough = { Prim.search rules };
+
+    fn widen(self) -> u64 {
+        self
+    }
+
+    fn narrow(wide: u64) -> u64 {
+        wide
+    }
 }
 
 // The items of a that are not in b.
@@ -37,57 +106,14 @@ pub fn difference(a: u32, b: u32) -> u32
 pub fn lowest_item(m: u32) -> u32
     ensures { result ≡ lowest 32 (λ i. has i m) }
 {
-    u32::trailing_zeros(m)
-}
-
-// The items of m, and t where it is below the width.
-pub fn insert_u32(m: u32, t: u32) -> u32
-    ensures { result ≡ plus_below 32 m t }
-{
-    if 32 <= t {
-        return m;
-    }
-    m | (1u32 << t)
-}
-
-// The items of m, and x where it is below the width.
-pub fn insert_u64(m: u64, x: u8) -> u64
-    ensures { result ≡ plus_below 64 m x }
-{
-    if 64 <= x {
-        return m;
-    }
-    m | (1u64 << x)
-}
-
-// The items of m, each n higher; those that come to stand past the width are lost.
-pub fn shift_u32(m: u32, n: u32) -> u32
-    ensures { result ≡ shifted n m % 2 ^ 32 }
-{
-    if 32 <= n {
-        return 0;
-    }
-    m << n
-}
-
-// The items of m, each d higher; those that come to stand past the width are lost.
-pub fn shift_u64(m: u64, d: u8) -> u64
-    ensures { result ≡ shifted d m % 2 ^ 64 }
-{
-    if 64 <= d {
-        return 0;
-    }
-    m << d
+    m.trailing_zeros()
 }
 
 // How many masks there are over m identifiers; a mask has room for 32.
 pub fn mask_count(m: u32) -> u64
     ensures { result ≡ 2 ^ min m 32 }
 {
-    if m < 32 {
-        return 1u64 << m;
-    }
-    4294967296
+    1u64 << m.min(32)
 }
 
 // The mask of all of m identifiers: the greatest.

@@ -22,12 +22,10 @@ fn power(k: usize) -> u32
 fn decimal_width(n: u32) -> usize
     ensures { result ≡ decimal_width n }
 {
-    let mut w: usize = 0;
-    while w < 9 {
+    for w in 0..9 {
         if n < power(w + 1) {
             return w + 1;
         }
-        w += 1;
     }
     10
 }
@@ -38,10 +36,8 @@ fn write_digits(out: &mut [u8], at: usize, width: usize, n: u32)
     ensures { out.new ≡ sets out.old at (spell 10 width n) }
 {
     let mut i = at;
-    let mut left = width;
     let mut rest = n;
-    while 0 < left {
-        left -= 1;
+    for left in (0..width).rev() {
         let p = power(left);
         out[i] = 48 + (rest / p) as u8;
         rest = rest % p;

@@ -71,82 +71,80 @@ pub struct Successors {
 pub fn capped(count: usize, limit: u8) -> u8
     ensures { result ≡ min count limit }
 {
-    if count < limit as usize {
-        return count as u8;
-    }
-    limit
+    count.min(limit as usize) as u8
 }
 
 // What stands at a place that no line of a text filled.
-pub fn blank_template() -> Template
-    ensures { result ≡ blank }
-{
-    Template {
-        form: Form::End,
-        lab: 0,
-        pos: 0,
-        neg: 0,
-        creates: 0,
-        risk: false,
+impl Default for Template {
+    ghost is_default = { λ t. t ≡ blank };
+
+    fn default() -> Template {
+        Template {
+            form: Form::End,
+            lab: 0,
+            pos: 0,
+            neg: 0,
+            creates: 0,
+            risk: false,
+        }
     }
 }
 
-pub fn blank_assertion() -> Assertion
-    ensures { result ≡ blank_assertion }
-{
-    Assertion {
-        kind: Kind::Secrecy,
-        source: 0,
-        sink: 0,
-        anc: 0,
-        declass: 0,
+impl Default for Assertion {
+    ghost is_default = { λ a. a ≡ blank_assertion };
+
+    fn default() -> Assertion {
+        Assertion {
+            kind: Kind::Secrecy,
+            source: 0,
+            sink: 0,
+            anc: 0,
+            declass: 0,
+        }
     }
 }
 
-// The template of that number, blank where the plan has no place for it.
-pub fn template_at(plan: Plan, x: u8) -> Template
-    ensures { result ≡ at plan x }
-{
-    let i = x as usize;
-    if 64 <= i {
-        return blank_template();
-    }
-    plan.templates[i]
-}
-
-pub fn successors_of(form: Form) -> Successors
-    ensures { listed result ≡ successors form }
-{
-    match form {
-        Form::End => Successors {
-            count: 0,
-            first: 0,
-            second: 0,
-        },
-        Form::Go(y) => Successors {
-            count: 1,
-            first: y,
-            second: 0,
-        },
-        Form::Either(y, z) => Successors {
-            count: 2,
-            first: y,
-            second: z,
-        },
-        Form::Both(y, z) => Successors {
-            count: 2,
-            first: y,
-            second: z,
-        },
+impl Plan {
+    // The template of that number, blank where the plan has no place for it.
+    #[tactic(auto, unfolding(crate::specs::Plan::at))]
+    pub fn template(&self, x: u8) -> Template
+        ensures { result ≡ at self.now x }
+    {
+        self.templates.get(x as usize).copied().unwrap_or_default()
     }
 }
 
-// The assertion at that place, blank where the policy has no place for it.
-pub fn assertion_at(policy: Policy, i: usize) -> Assertion
-    ensures { result ≡ assertion_at policy i }
-{
-    if 32 <= i {
-        return blank_assertion();
+impl Policy {
+    // The assertion at that place, blank where the policy has no place for it.
+    #[tactic(auto, unfolding(crate::specs::Plan::assertion_at))]
+    pub fn assertion(&self, i: usize) -> Assertion
+        ensures { result ≡ assertion_at self.now i }
+    {
+        self.assertions.get(i).copied().unwrap_or_default()
     }
-    policy.assertions[i]
+}
+
+impl Form {
+    #[tactic(auto, unfolding(crate::specs::Plan::successors))]
+    pub fn successors(self) -> Successors
+        ensures { listed result ≡ successors self }
+    {
+        match self {
+            Form::End => Successors {
+                count: 0,
+                first: 0,
+                second: 0,
+            },
+            Form::Go(y) => Successors {
+                count: 1,
+                first: y,
+                second: 0,
+            },
+            Form::Either(y, z) | Form::Both(y, z) => Successors {
+                count: 2,
+                first: y,
+                second: z,
+            },
+        }
+    }
 }

@@ -1,4 +1,4 @@
-use Prim.Native.Nat.{◌-◌, ◌≤◌}
+use Prim.Native.Nat.{◌≤◌}
 use mathlib.Core.Path.{◌≡◌}
 use mathlib.Core.Bool.{true}
 use Rattle.ranges.specs.Ranges.{rises}
@@ -6,7 +6,4 @@ use Rattle.arrays.specs.Places.{Split}
 use Rattle.arrays.proofs.count_below.Given as goal
 
 abbrev pub invariant-loop-i : goal.invariant-loop-i
-invariant-loop-i l = (l.i ≤ l.n) × (l.below ≤ l.i) × (rises l.xs l.from l.n ≡ true → Split l.xs l.from l.i l.serial l.below)
-
-abbrev pub decreases-loop-i : goal.decreases-loop-i
-decreases-loop-i l = l.n - l.i
+invariant-loop-i l = (l.below ≤ l.i) × (rises l.xs l.from l.n ≡ true → Split l.xs l.from l.i l.serial l.below)

@@ -1,4 +1,3 @@
-use Prim.Native.Nat.{◌-◌, ◌≤◌}
 use mathlib.Core.Path.{◌≡◌}
 use mathlib.Core.Bool.{false}
 use Rattle.lists.specs.Numbers.{any}
@@ -6,7 +5,4 @@ use Rattle.numerals.proofs.Digits.{room_in}
 use Rattle.numerals.proofs.decimal_width.Given as goal
 
 abbrev pub invariant-loop-w : goal.invariant-loop-w
-invariant-loop-w l = (l.w ≤ 9) × (any l.w (room_in l.n) ≡ false)
-
-abbrev pub decreases-loop-w : goal.decreases-loop-w
-decreases-loop-w l = 9 - l.w
+invariant-loop-w l = (any l.w (room_in l.n) ≡ false)

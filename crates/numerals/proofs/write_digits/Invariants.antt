@@ -6,8 +6,5 @@ use Rattle.numerals.specs.Numerals.{spell}
 use Rattle.numerals.proofs.write_digits.Given as goal
 
 abbrev pub invariant-loop-left : goal.invariant-loop-left
-invariant-loop-left l = (l.left ≤ 10) × (l.i + l.left ≤ length l.out) × (l.rest < 10 ^ l.left) × (length l.out ≡ length l.initial.out)
+invariant-loop-left l = (l.i + l.left ≤ length l.out) × (l.rest < 10 ^ l.left) × (length l.out ≡ length l.initial.out)
     × (sets l.out l.i (spell 10 l.left l.rest) ≡ sets l.initial.out l.at (spell 10 l.width l.n))
-
-abbrev pub decreases-loop-left : goal.decreases-loop-left
-decreases-loop-left l = l.left

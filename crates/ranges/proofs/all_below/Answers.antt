@@ -1,21 +1,6 @@
--- The loop has gathered the test of the numbers that it passed; the measure is how many are left.
-use mathlib.Core.{Bool.{not}, Path.{◌≡◌, sym, ap}}
-use native.Mathlib.Omega.{arith}
 use borrow.Author.Rules.{rules}
-use Rattle.lists.proofs.Every.{every_none, every_acc}
-use Rattle.ranges.proofs.Ranges.{range_not, range_there, holds_there}
+use lib.Dec.{ltb}
 use Rattle.ranges.proofs.all_below.Goals as goal
 
-pub returns-then-not-is_within : goal.returns-then-not-is_within
-returns-then-not-is_within c = rw (range_not _ _ _ _ c.is_within.ensures (ap not c.if-not-is_within.true))
-
-pub loop-i-init : goal.loop-i-init
-loop-i-init c = (search rules, search range_there, sym (every_none _))
-
-pub loop-i-preserved : goal.loop-i-preserved
-loop-i-preserved c = (omega arith, c.loop-i.invariant.1, every_acc _ _ _ c.loop-i.invariant.2)
-
 pub returns : goal.returns
-returns c = let l = c.loop-i in
-    let e : l.i ≡ c.args.n = omega arith in
-    rw (holds_there _ _ _ l.invariant.1) (rw e at l.invariant.2)
+returns c = c.each_passes.ensures (λ x. ltb x c.args.bound) (λ x b e. search rules)

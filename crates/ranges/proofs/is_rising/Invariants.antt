@@ -1,4 +1,4 @@
-use Prim.Native.Nat.{◌+◌, ◌-◌, ◌≤◌}
+use Prim.Native.Nat.{◌+◌, ◌≤◌}
 use mathlib.Core.Path.{◌≡◌}
 use lib.Dec.{ltb}
 use lib.ListN.{get_or, length}
@@ -6,7 +6,4 @@ use Rattle.lists.specs.Numbers.{every}
 use Rattle.ranges.proofs.is_rising.Given as goal
 
 abbrev pub invariant-loop-i : goal.invariant-loop-i
-invariant-loop-i l = (l.i ≤ l.n - 1) × (l.from + l.n ≤ length l.xs) × (l.fits ≡ every l.i (λ k. ltb (get_or l.xs (l.from + k) 0) (get_or l.xs (l.from + k + 1) 0)))
-
-abbrev pub decreases-loop-i : goal.decreases-loop-i
-decreases-loop-i l = l.n - l.i
+invariant-loop-i l = (l.from + l.n ≤ length l.xs) × (l.fits ≡ every l.i (λ k. ltb (get_or l.xs (l.from + k) 0) (get_or l.xs (l.from + k + 1) 0)))
