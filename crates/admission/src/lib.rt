@@ -5,10 +5,11 @@ ghost use Rattle.std.specs.Prelude.{◌≡◌, not, ◌≤◌, get_or};
 ghost use Rattle.mask.specs.Sets.{Marks};
 ghost use Rattle.plan.specs.Listed.{listed};
 ghost use Rattle.machine.specs.Machine.{branch_fits, children};
-ghost use Rattle.population.specs.Lent.{answer_for};
+ghost use Rattle.population.specs.Refusals.{done_or};
 ghost use Rattle.admission.specs.Admission.{innocent, fitting, all_fitting, refusal_of};
 
 use plan::{Form, Successors, Template};
+use population::{Children, Refusal};
 
 // Document 01, 22: "branch is not 0, or for `either` not 0 or 1".
 fn is_branch(form: Form, branch: u32) -> bool
@@ -68,46 +69,37 @@ fn is_fitting(m: u32, label: u32, x: Template, y: Template) -> bool
 }
 
 // The same for none, one or two.
-fn are_fitting(
-    m: u32,
-    label: u32,
-    x: Template,
-    count: u8,
-    first: Template,
-    second: Template,
-) -> bool
-    ensures { result ≡ all_fitting m label x count first second }
+fn are_fitting(m: u32, label: u32, x: Template, children: Children) -> bool
+    ensures { result ≡ all_fitting m label x children.count children.first.template children.second.template }
 {
-    let one = (count < 1) | is_fitting(m, label, x, first);
-    one & ((count < 2) | is_fitting(m, label, x, second))
+    let one = (children.count < 1) | is_fitting(m, label, x, children.first.template);
+    one & ((children.count < 2) | is_fitting(m, label, x, children.second.template))
 }
 
-// The number of the first refusal from 22 to 25, and 0 where there is none.
-pub fn refusal(
+// The first refusal from 22 to 25 of a process at x, of that label, which is to have those children.
+pub fn admit(
     m: u32,
     next: u32,
     live: u32,
     label: u32,
     x: Template,
     branch: u32,
-    count: u8,
-    first: Template,
-    second: Template,
-) -> u8
-    ensures { answer_for result ≡ refusal_of m next live label x branch count first second }
+    children: Children,
+) -> Result<(), Refusal>
+    ensures { done_or result ≡ refusal_of m next live label x branch children.count children.first.template children.second.template }
 {
-    let form = x.form;
-    if !is_branch(form, branch) {
-        return population::NO_BRANCH;
+    if !is_branch(x.form, branch) {
+        return Err(Refusal::NoBranch);
     }
+    let count = children.count;
     if (count == 2) & (128 <= live) {
-        return population::NO_ROOM;
+        return Err(Refusal::NoRoom);
     }
-    if 4294967295 - (count as u32) < next {
-        return population::NO_SERIAL;
+    if u32::MAX - (count as u32) < next {
+        return Err(Refusal::NoSerial);
     }
-    if !are_fitting(m, label, x, count, first, second) {
-        return population::BAD_LABEL;
+    if !are_fitting(m, label, x, children) {
+        return Err(Refusal::BadLabel);
     }
-    0
+    Ok(())
 }

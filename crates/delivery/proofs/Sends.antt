@@ -33,13 +33,11 @@ pub agreed : (label receiver sent held i : ℕ) (a b : Bool) → a ≡ has i lab
     → (not a || (b && eqb sent held)) ≡ (not (has i label) || (has i receiver && eqb sent held))
 agreed label receiver sent held i a b ea eb = ap₂ (λ (a b : Bool). not a || (b && eqb sent held)) ea eb
 
--- Both parts have the tags: x and y are their lengths, a and b the answers of `is_within`, n is m as an index.
-pub parts_there : (m n from to x y : ℕ) (a b : Bool) → n ≡ m → a ≡ leb (from + n) x → b ≡ leb (to + n) y → not (a && b) ≡ false
+-- Both parts have the tags: x and y are their lengths, a and b the answers of `is_within`.
+pub parts_there : (m from to x y : ℕ) (a b : Bool) → a ≡ leb (from + m) x → b ≡ leb (to + m) y → not (a && b) ≡ false
     → (from + m ≤ x) × (to + m ≤ y)
-parts_there m n from to x y a b en ea eb h = (
-  subst (λ (n : ℕ). from + n ≤ x) en (leb-true (from + n) x (sym ea ∙ and_left a b (not-false (a && b) h))),
-  subst (λ (n : ℕ). to + n ≤ y) en (leb-true (to + n) y (sym eb ∙ and_right a b (not-false (a && b) h))),
-)
+parts_there m from to x y a b ea eb h =
+    (leb-true (from + m) x (sym ea ∙ and_left a b (not-false (a && b) h)), leb-true (to + m) y (sym eb ∙ and_right a b (not-false (a && b) h)))
 
 module _ (m label : ℕ) (sent : List ℕ) (from receiver : ℕ) (held : List ℕ) (to : ℕ) where
   -- The tags as they stand in the two parts.
@@ -50,11 +48,11 @@ module _ (m label : ℕ) (sent : List ℕ) (from receiver : ℕ) (held : List �
       every_ext m _ _ (λ i h. ap₂ (λ (t u : ℕ). not (has i label) || (has i receiver && eqb t u))
       (sym (get_or-tabulate m (λ i. get_or sent (from + i) 0) i 0 h)) (sym (get_or-tabulate m (λ i. get_or held (to + i) 0) i 0 h)))
 
-  -- n is m as an index, a and b are the answers of `is_within`.
-  module _ (n : ℕ) (en : n ≡ m) (a b : Bool) (ea : a ≡ leb (from + n) (length sent)) (eb : b ≡ leb (to + n) (length held)) where
+  -- a and b are the answers of `is_within`.
+  module _ (a b : Bool) (ea : a ≡ leb (from + m) (length sent)) (eb : b ≡ leb (to + m) (length held)) where
     both_there : (a && b) ≡ (holds sent from m && holds held to m)
     unfolding holds
-    both_there = ap₂ ◌&&◌ (ea ∙ ap (λ (n : ℕ). leb (from + n) (length sent)) en) (eb ∙ ap (λ (n : ℕ). leb (to + n) (length held)) en)
+    both_there = ap₂ ◌&&◌ ea eb
 
     pub passed_short : not (a && b) ≡ true
         → false ≡ ((holds sent from m && holds held to m) && agree m label (words_from m sent from) receiver (words_from m held to))
@@ -66,9 +64,9 @@ module _ (m label : ℕ) (sent : List ℕ) (from receiver : ℕ) (held : List �
     passed_parts h r e =
         e ∙ agree_parts ∙ ap (λ (t : Bool). t && agree m label (words_from m sent from) receiver (words_from m held to)) (sym (not-false (a && b) h) ∙ both_there)
 
--- ---- the call; n is live as an index
+-- ---- the call
 
-module _ (row : List ℕ) (next live n : ℕ) (xs ts ls gs : List ℕ) (from to : ℕ) (en : n ≡ live) (sized : length xs ≡ 128) where
+module _ (row : List ℕ) (next live : ℕ) (xs ts ls gs : List ℕ) (from to : ℕ) (sized : length xs ≡ 128) where
   abbrev c : Cells
   c = cells xs ts ls gs
 
@@ -82,28 +80,28 @@ module _ (row : List ℕ) (next live n : ℕ) (xs ts ls gs : List ℕ) (from to 
     found_a : well_formed box_limits m ≡ true → a ≡ lowest live (λ i. eqb (get_or xs i 0) from)
     found_a well = placed_at (plan_for row) next live c well from a sized at_a
 
-    pub sent_from_none : n ≤ a → Tried (plan_for row) next live (cells xs ts ls gs) (send from to) (settles (Refused 21) next live) (cells xs ts ls gs)
+    pub sent_from_none : live ≤ a → Tried (plan_for row) next live (cells xs ts ls gs) (send from to) (settles (Refused 21) next live) (cells xs ts ls gs)
     unfolding answer_to send_by settled if_done machine_from
     sent_from_none l =
         tried_same (plan_for row) next live c (send from to) (Refused 21) _ refl (λ well.
-        rw (found_none M live c from a (found_a well) (omega (arith, en))))
+        rw (found_none M live c from a (found_a well) (omega arith)))
 
-    module _ (la : a < n) (b : ℕ) (at_b : Located xs 0 live to b) where
+    module _ (la : a < live) (b : ℕ) (at_b : Located xs 0 live to b) where
       found_b : well_formed box_limits m ≡ true → b ≡ lowest live (λ i. eqb (get_or xs i 0) to)
       found_b well = placed_at (plan_for row) next live c well to b sized at_b
 
-      pub sent_to_none : n ≤ b → Tried (plan_for row) next live (cells xs ts ls gs) (send from to) (settles (Refused 21) next live) (cells xs ts ls gs)
+      pub sent_to_none : live ≤ b → Tried (plan_for row) next live (cells xs ts ls gs) (send from to) (settles (Refused 21) next live) (cells xs ts ls gs)
       unfolding answer_to send_by settled if_done machine_from
       sent_to_none l =
           tried_same (plan_for row) next live c (send from to) (Refused 21) _ refl (λ well.
-          rw (found_some M live c from a (found_a well) (omega (arith, en)), found_none M live c to b (found_b well) (omega (arith, en))))
+          rw (found_some M live c from a (found_a well) (omega arith), found_none M live c to b (found_b well) (omega arith)))
 
-      module _ (lb : b < n) where
+      module _ (lb : b < live) where
         pub sent_itself : from ≡ to → Tried (plan_for row) next live (cells xs ts ls gs) (send from to) (settles (Refused 26) next live) (cells xs ts ls gs)
         unfolding answer_to send_by settled if_done machine_from refuse_if
         sent_itself e =
             tried_same (plan_for row) next live c (send from to) (Refused 26) _ refl (λ well.
-            rw (found_some M live c from a (found_a well) (omega (arith, en)), found_some M live c to b (found_b well) (omega (arith, en)), eq-eqb from to e))
+            rw (found_some M live c from a (found_a well) (omega arith), found_some M live c to b (found_b well) (omega arith), eq-eqb from to e))
 
         -- m is the row's number of identifiers, f and t where the two rows of tags begin, r the answer of `is_passed`.
         module _ (e : from ≡ to → ⊥) (k f t : ℕ) (ek : k ≡ identifiers_in row) (ef : f ≡ a * k) (et : t ≡ b * k) (room : length gs ≡ 4096) (r : Bool)
@@ -116,7 +114,7 @@ module _ (row : List ℕ) (next live n : ℕ) (xs ts ls gs : List ℕ) (from to 
           passed well =
               ap (λ (k : ℕ). agree k (get_or ls a 0) (words_from k gs (a * k)) (get_or ls b 0) (words_from k gs (b * k))) M-is
               ∙ ap₂ (λ (f t : ℕ). agree k (get_or ls a 0) (words_from k gs f) (get_or ls b 0) (words_from k gs t)) (sym ef) (sym et)
-              ∙ sym (er ∙ ap₂ (λ (u v : Bool). (u && v) && agree k (get_or ls a 0) (words_from k gs f) (get_or ls b 0) (words_from k gs t)) (there a f ef (omega (arith, en, many)) few) (there b t et (omega (arith, en, many)) few))
+              ∙ sym (er ∙ ap₂ (λ (u v : Bool). (u && v) && agree k (get_or ls a 0) (words_from k gs f) (get_or ls b 0) (words_from k gs t)) (there a f ef (omega (arith, many)) few) (there b t et (omega (arith, many)) few))
             where
               M-is : M ≡ k
               M-is = formed_identifiers row next live c well ∙ sym ek
@@ -130,7 +128,7 @@ module _ (row : List ℕ) (next live n : ℕ) (xs ts ls gs : List ℕ) (from to 
           settled_send : well_formed box_limits m ≡ true → answer_to box_limits m (send from to) ≡ settled m (cond r Delivered Held) m
           unfolding answer_to send_by machine_from refuse_if placed
           settled_send well =
-              rw (found_some M live c from a (found_a well) (omega (arith, en)), found_some M live c to b (found_b well) (omega (arith, en)), ne_eqb from to e)
+              rw (found_some M live c from a (found_a well) (omega arith), found_some M live c to b (found_b well) (omega arith), ne_eqb from to e)
               (ap (λ (r : Bool). settled m (cond r Delivered Held) m) (passed well))
 
           pub sent_delivered : r ≡ true → Tried (plan_for row) next live (cells xs ts ls gs) (send from to) (settles Delivered next live) (cells xs ts ls gs)

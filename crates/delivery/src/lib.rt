@@ -9,9 +9,11 @@ ghost use Rattle.machine.specs.State.{words_from};
 ghost use Rattle.ranges.specs.Ranges.{holds};
 ghost use Rattle.population.specs.Arrays.{cells};
 ghost use Rattle.population.specs.Lent.{settles, Tried};
+ghost use Rattle.population.specs.Refusals.{answer_or};
 
 use machine::Answer;
 use planrow::WORDS;
+use population::Refusal;
 
 // Whether identifier i holds nothing back: it is not in the sender's label, or it is in both and the tags are equal.
 fn is_agreed(label: u32, receiver: u32, sent: u32, held: u32, i: u32) -> bool
@@ -33,22 +35,14 @@ pub fn is_passed(
 ) -> bool
     ensures { result ≡ ((holds sent.now from m && holds held.now to m) && agree m label (words_from m sent.now from) receiver (words_from m held.now to)) }
 {
-    let n = arrays::index(m);
+    let n = m as usize;
     if !(ranges::is_within(sent.len(), from, n) & ranges::is_within(held.len(), to, n)) {
         return false;
     }
     let mut agreed = true;
-    let mut i: u32 = 0;
-    while i < m {
-        agreed = agreed
-            & is_agreed(
-                label,
-                receiver,
-                sent[from + (i as usize)],
-                held[to + (i as usize)],
-                i,
-            );
-        i += 1;
+    for i in 0..m {
+        let k = i as usize;
+        agreed &= is_agreed(label, receiver, sent[from + k], held[to + k], i);
     }
     agreed
 }
@@ -62,23 +56,16 @@ pub fn attempt<'a>(
     tags: &'a [u32; 4096],
     from: u32,
     to: u32,
-) -> Answer
+) -> Result<Answer, Refusal>
     ensures { let plan = plan_for row.now in
         ((next : ℕ) (templates : List ℕ) →
         let c = cells serials.now templates labels.now tags.now in
-        Tried plan next live c (send from to) (settles result next live) c) }
+        Tried plan next live c (send from to) (settles (answer_or result) next live) c) }
 {
-    let n = arrays::index(live);
-    let a = arrays::place_of(serials, 0, live, from);
-    if n <= a {
-        return Answer::Refused(population::NOT_LIVE);
-    }
-    let b = arrays::place_of(serials, 0, live, to);
-    if n <= b {
-        return Answer::Refused(population::NOT_LIVE);
-    }
+    let a = population::find(serials, live, from)?;
+    let b = population::find(serials, live, to)?;
     if from == to {
-        return Answer::Refused(population::TO_ITSELF);
+        return Err(Refusal::ToItself);
     }
     let m = planrow::identifier_count(row);
     if is_passed(
@@ -90,8 +77,8 @@ pub fn attempt<'a>(
         tags,
         tagrows::row_start(b as u32, m),
     ) {
-        Answer::Delivered
+        Ok(Answer::Delivered)
     } else {
-        Answer::Held
+        Ok(Answer::Held)
     }
 }

@@ -2,25 +2,52 @@
 // the crates below.
 #![tactic(auto)]
 
+ghost use Rattle.std.specs.Prelude.{◌≡◌, get_or};
 ghost use Rattle.machine.specs.State.{call_of};
 ghost use Rattle.planrow.specs.Lookup.{plan_for};
 ghost use Rattle.population.specs.Arrays.{cells};
 ghost use Rattle.population.specs.Lent.{Tried, Did};
+ghost use Rattle.population.specs.Refusals.{settled_or};
+ghost use Rattle.dispatch.specs.Calls.{meant};
 
 use machine::Answer;
 use planrow::WORDS;
-use population::Settled;
+use population::{Refusal, Settled};
 
-// The first word of a call: its kind. Any other number is a lower.
-pub const STEP: u32 = 0;
+#[derive(Clone, Copy)]
+pub enum Call {
+    Step { serial: u32, branch: u32 },
+    Send { from: u32, to: u32 },
+    Raise { serial: u32, identifier: u32 },
+    Lower { serial: u32, identifier: u32 },
+}
 
-pub const SEND: u32 = 1;
+// A call as three words: its kind (0 step, 1 send, 2 raise, any other number lower) and its two numbers.
+impl From<[u32; 3]> for Call {
+    ghost from_gives = { λ words call. meant call ≡ call_of (get_or words 0 0) (get_or words 1 0) (get_or words 2 0) };
 
-pub const RAISE: u32 = 2;
-
-pub const LOWER: u32 = 3;
+    fn from(words: [u32; 3]) -> Call {
+        let [kind, x, y] = words;
+        match kind {
+            0 => Call::Step {
+                serial: x,
+                branch: y,
+            },
+            1 => Call::Send { from: x, to: y },
+            2 => Call::Raise {
+                serial: x,
+                identifier: y,
+            },
+            _ => Call::Lower {
+                serial: x,
+                identifier: y,
+            },
+        }
+    }
+}
 
 // One call, of a state that is not bad.
+#[tactic(auto, unfolding(labelling::specs::Labelling::moves))]
 fn attempt<'a>(
     row: &'a [u32; WORDS],
     next: u32,
@@ -29,24 +56,36 @@ fn attempt<'a>(
     templates: &'a mut [u32; 128],
     labels: &'a mut [u32; 128],
     tags: &'a mut [u32; 4096],
-    kind: u32,
-    x: u32,
-    y: u32,
-) -> Settled
+    call: Call,
+) -> Result<Settled, Refusal>
     ensures { let plan = plan_for row.now in
         let c = cells serials.old templates.old labels.old tags.old in
         let d = cells serials.new templates.new labels.new tags.new in
-        Tried plan next live c (call_of kind x y) result d }
+        Tried plan next live c (meant call) (settled_or next live result) d }
 {
-    if kind == STEP {
-        return stepping::attempt(row, next, live, serials, templates, labels, tags, x, y);
+    match call {
+        Call::Step { serial, branch } => {
+            stepping::attempt(
+                row, next, live, serials, templates, labels, tags, serial, branch,
+            )
+        }
+        Call::Send { from, to } => {
+            let sent = delivery::attempt(row, live, serials, labels, tags, from, to)?;
+            Ok(population::settle(sent, next, live))
+        }
+        Call::Raise { serial, identifier } => {
+            labelling::attempt(
+                row, live, serials, templates, labels, serial, identifier, true,
+            )?;
+            Ok(population::settle(Answer::Done, next, live))
+        }
+        Call::Lower { serial, identifier } => {
+            labelling::attempt(
+                row, live, serials, templates, labels, serial, identifier, false,
+            )?;
+            Ok(population::settle(Answer::Done, next, live))
+        }
     }
-    if kind == SEND {
-        let sent = delivery::attempt(row, live, serials, labels, tags, x, y);
-        return population::settle(sent, next, live);
-    }
-    let moved = labelling::attempt(row, live, serials, templates, labels, x, y, kind == RAISE);
-    population::settle(moved, next, live)
 }
 
 // One call: 20 stands before every other refusal.
@@ -58,19 +97,18 @@ pub fn run_call<'a>(
     templates: &'a mut [u32; 128],
     labels: &'a mut [u32; 128],
     tags: &'a mut [u32; 4096],
-    kind: u32,
-    x: u32,
-    y: u32,
+    call: Call,
 ) -> Settled
     ensures { let plan = plan_for row.now in
         let c = cells serials.old templates.old labels.old tags.old in
         let d = cells serials.new templates.new labels.new tags.new in
-        Did plan next live c (call_of kind x y) result d }
+        Did plan next live c (meant call) result d }
 {
     if !population::is_well_formed(row, next, live, serials, templates, labels, tags) {
-        return population::settle(Answer::Refused(population::BAD_STATE), next, live);
+        return population::settle(Answer::from(Refusal::BadState), next, live);
     }
-    attempt(
-        row, next, live, serials, templates, labels, tags, kind, x, y,
-    )
+    match attempt(row, next, live, serials, templates, labels, tags, call) {
+        Ok(settled) => settled,
+        Err(refusal) => population::settle(Answer::from(refusal), next, live),
+    }
 }

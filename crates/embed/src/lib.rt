@@ -45,12 +45,11 @@ pub fn monitor_start<'a>(
         Starts plan.now policy.now words.new row.new k }
 {
     let begun = starting::start(plan, policy);
-    let verdict = begun.verdict;
     let state = begun.state;
-    *words = words::verdict_words(verdict);
-    let read = state.plan;
-    *row = encoding::row_of(read);
+    *words = words::verdict_words(begun.verdict);
+    *row = encoding::row_of(state.plan);
     *place = [state.next, state.live];
+    // By way of variables: the borrow checker takes no array straight from a field.
     let s = state.serials;
     *serials = s;
     let t = state.templates;
@@ -109,7 +108,6 @@ pub fn monitor_replay<'a>(
     ensures { ReplayedAll plan.now policy.now calls.now answers.old words.new result answers.new }
 {
     let replayed = replaying::replay(plan, policy, calls, answers);
-    let verdict = replayed.verdict;
-    *words = words::verdict_words(verdict);
+    *words = words::verdict_words(replayed.verdict);
     replayed.count
 }

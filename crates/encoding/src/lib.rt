@@ -16,30 +16,21 @@ struct FormWords {
     second: u8,
 }
 
-fn form_words(form: Form) -> FormWords
-    ensures { (result.number ≡ form_number form) × (result.first ≡ first_of form) × (result.second ≡ second_of form) }
-{
-    match form {
-        Form::End => FormWords {
-            number: 0,
-            first: 0,
-            second: 0,
-        },
-        Form::Go(y) => FormWords {
-            number: 1,
-            first: y,
-            second: 0,
-        },
-        Form::Either(y, z) => FormWords {
-            number: 2,
-            first: y,
-            second: z,
-        },
-        Form::Both(y, z) => FormWords {
-            number: 3,
-            first: y,
-            second: z,
-        },
+impl From<Form> for FormWords {
+    fn from(form: Form) -> FormWords
+        ensures { (result.number ≡ form_number form) × (result.first ≡ first_of form) × (result.second ≡ second_of form) }
+    {
+        let (number, first, second) = match form {
+            Form::End => (0, 0, 0),
+            Form::Go(y) => (1, y, 0),
+            Form::Either(y, z) => (2, y, z),
+            Form::Both(y, z) => (3, y, z),
+        };
+        FormWords {
+            number,
+            first,
+            second,
+        }
     }
 }
 
@@ -47,8 +38,7 @@ fn form_words(form: Form) -> FormWords
 fn words_of(t: Template) -> [u32; WIDTH]
     ensures { result ≡ words_of t }
 {
-    let form = t.form;
-    let w = form_words(form);
+    let w = FormWords::from(t.form);
     [
         w.number,
         w.first as u32,
@@ -66,10 +56,8 @@ fn put_words(row: &mut [u32], at: usize, words: [u32; WIDTH])
     requires { at + width ≤ length row.old }
     ensures { (j : ℕ) → get_or row.new j 0 ≡ written row.old at width (λ k. get_or words k 0) j }
 {
-    let mut k: usize = 0;
-    while k < WIDTH {
+    for k in 0..WIDTH {
         row[at + k] = words[k];
-        k += 1;
     }
 }
 
@@ -81,12 +69,9 @@ pub fn row_of(plan: Plan) -> [u32; WORDS]
     out[0] = plan::capped(plan.count, 65) as u32;
     out[1] = plan.identifiers;
     let n = plan::capped(plan.count, 64) as usize;
-    let mut i: usize = 0;
-    while i < n {
-        let t = plan.templates[i];
-        let words = words_of(t);
+    for i in 0..n {
+        let words = words_of(plan.templates[i]);
         put_words(&mut out, HEADER + WIDTH * i, words);
-        i += 1;
     }
     out
 }

@@ -23,9 +23,9 @@ use Rattle.machine.specs.State.{Cells, words_from, placed, processes_of, machine
 use Rattle.machine.proofs.Places.{relabel_at}
 use Rattle.machine.proofs.Outcomes.{refuse_yes, refuse_no, refuse_done, settled_refused, settled_done}
 use Rattle.population.specs.Arrays.{cells}
-use Rattle.population.specs.Lent.{settles, Tried, answer_for}
+use Rattle.population.specs.Lent.{settles, Tried}
 use Rattle.population.proofs.Fits.{formed_live, formed_identifiers, looked_at}
-use Rattle.population.proofs.Lent.{numbered, unless_step_lem, tried_same, placed_at, found_none, found_some, found_serial, alone}
+use Rattle.population.proofs.Lent.{unless_step_lem, tried_same, placed_at, found_none, found_some, found_serial, alone}
 use Rattle.labelling.specs.Labelling.{moves, refusal_of}
 
 -- ---- 27 to 29
@@ -54,10 +54,9 @@ module _ (M : ℕ) (risk : Bool) (allowed i : ℕ) where
       refused_none q = sym (from_29 ∙ refuse_no (not (has i allowed)) 29 _ (ap not (sym eb) ∙ q))
 
 -- What may be moved is an identifier of the plan's.
-not_refused : (M : ℕ) (risk : Bool) (allowed i q : ℕ) → answer_for q ≡ refusal_of M risk allowed i → q ≡ 0 → i < M
+not_refused : (M : ℕ) (risk : Bool) (allowed i : ℕ) → Done ≡ refusal_of M risk allowed i → i < M
 unfolding refusal_of
-not_refused M risk allowed i q e z =
-    ltb-true i M (not-false (ltb i M) (refuse_done (not (ltb i M)) 27 _ (sym e ∙ ap answer_for z)).0)
+not_refused M risk allowed i e = ltb-true i M (not-false (ltb i M) (refuse_done (not (ltb i M)) 27 _ (sym e)).0)
 
 -- ---- the arrays
 
@@ -81,7 +80,7 @@ unfolding answer_to moves
 move_by_lem m true s i = refl
 move_by_lem m false s i = refl
 
-module _ (row : List ℕ) (next live n : ℕ) (xs ts ls gs : List ℕ) (present : Bool) (s i : ℕ) (en : n ≡ live) (sized : length xs ≡ 128) (k : ℕ) (at-k : Located xs 0 live s k) where
+module _ (row : List ℕ) (next live : ℕ) (xs ts ls gs : List ℕ) (present : Bool) (s i : ℕ) (sized : length xs ≡ 128) (k : ℕ) (at-k : Located xs 0 live s k) where
   abbrev c : Cells
   c = cells xs ts ls gs
 
@@ -94,47 +93,46 @@ module _ (row : List ℕ) (next live n : ℕ) (xs ts ls gs : List ℕ) (present 
   found : well_formed box_limits m ≡ true → k ≡ lowest live (λ i. eqb (get_or xs i 0) s)
   found well = placed_at (plan_for row) next live c well s k sized at-k
 
-  pub move_gone : n ≤ k → Tried (plan_for row) next live (cells xs ts ls gs) (moves present s i) (settles (Refused 21) next live) (cells xs ts ls gs)
+  pub move_gone : live ≤ k → Tried (plan_for row) next live (cells xs ts ls gs) (moves present s i) (settles (Refused 21) next live) (cells xs ts ls gs)
   unfolding move_by machine_from
   move_gone l =
       tried_same (plan_for row) next live c (moves present s i) (Refused 21) _ refl (λ well.
-      sym (move_by_lem m present s i ∙ ap (move_by m s present i) (found_none M live c s k (found well) (omega (arith, en))) ∙ settled_refused _ _ _ 21 refl))
+      sym (move_by_lem m present s i ∙ ap (move_by m s present i) (found_none M live c s k (found well) (omega arith)) ∙ settled_refused _ _ _ 21 refl))
 
-  module _ (l : k < n) (w : ℕ) (ew : w ≡ identifiers_in row) (t : Template) (looked : t ≡ template_at row (get_or ts k 0)) (allowed : ℕ) (ea : allowed ≡ movable present t)
-      (q : ℕ) (eq : answer_for q ≡ refusal_of w t.risk allowed i) where
-    moved_by : well_formed box_limits m ≡ true → answer_to box_limits m (moves present s i) ≡ settled m (answer_for q) (moved m s (label_with present (get_or ls k 0) i))
+  module _ (l : k < live) (w : ℕ) (ew : w ≡ identifiers_in row) (t : Template) (looked : t ≡ template_at row (get_or ts k 0)) (allowed : ℕ) (ea : allowed ≡ movable present t)
+      (a : Answer) (eq : a ≡ refusal_of w t.risk allowed i) where
+    moved_by : well_formed box_limits m ≡ true → answer_to box_limits m (moves present s i) ≡ settled m a (moved m s (label_with present (get_or ls k 0) i))
     unfolding move_by machine_from move_answer refusal_of placed
     moved_by well =
         move_by_lem m present s i
-        ∙ ap (move_by m s present i) (found_some M live c s k (found well) (omega (arith, en)))
+        ∙ ap (move_by m s present i) (found_some M live c s k (found well) (omega arith))
         ∙ ap₂ (λ (M : ℕ) (t : Template). settled m (refusal_of M t.risk (movable present t) i) (moved m s (label_with present (get_or ls k 0) i)))
-        (formed_identifiers row next live c well ∙ sym ew) (sym (looked_at row next live c well k (omega (arith, en)) t looked))
+        (formed_identifiers row next live c well ∙ sym ew) (sym (looked_at row next live c well k (omega arith) t looked))
         ∙ ap (λ (a : ℕ). settled m (refusal_of w t.risk a i) (moved m s (label_with present (get_or ls k 0) i))) (sym ea)
         ∙ ap (λ (a : Answer). settled m a (moved m s (label_with present (get_or ls k 0) i))) (sym eq)
 
-    pub move_refused : (q ≡ 0 → ⊥) → Tried (plan_for row) next live (cells xs ts ls gs) (moves present s i) (settles (Refused q) next live) (cells xs ts ls gs)
-    move_refused z =
-        tried_same (plan_for row) next live c (moves present s i) (Refused q) _ refl (λ well.
-        sym (moved_by well ∙ settled_refused _ _ _ q (numbered q z)))
+    pub move_refused : (n : ℕ) → a ≡ Refused n → Tried (plan_for row) next live (cells xs ts ls gs) (moves present s i) (settles (Refused n) next live) (cells xs ts ls gs)
+    move_refused n z =
+        tried_same (plan_for row) next live c (moves present s i) (Refused n) _ refl (λ well. sym (moved_by well ∙ settled_refused _ _ _ n z))
 
-    pub move_done : q ≡ 0 → (label : ℕ) (ls' : List ℕ) → label ≡ label_with present (get_or ls k 0) i → length ls ≡ 128 → ls' ≡ set ls k label
+    pub move_done : a ≡ Done → (label : ℕ) (ls' : List ℕ) → label ≡ label_with present (get_or ls k 0) i → length ls ≡ 128 → ls' ≡ set ls k label
         → Tried (plan_for row) next live (cells xs ts ls gs) (moves present s i) (settles Done next live) (cells xs ts ls' gs)
     unfolding moved machine_from unless_done
     move_done z label ls' el room e = record {
       means = λ well.
           let few = formed_live (plan_for row) next live c well in
-          let serial = found_serial M live c s k (found well) (omega (arith, en)) in
-          sym (moved_by well ∙ settled_done _ _ _ (ap answer_for z)
+          let serial = found_serial M live c s k (found well) (omega arith) in
+          sym (moved_by well ∙ settled_done _ _ _ z
           ∙ ap (λ (ps : List Process). record { answer = Done; machine = record { plan = plan_for row; next = next; live = ps } })
           (ap₂ (λ (s label : ℕ). relabel s label (processes_of M live c)) (sym serial) (sym el)
-          ∙ relabelled_places (plan_for row) next live xs ts ls gs well k (omega (arith, en)) label ls' (omega (arith, room, en, few)) e));
+          ∙ relabelled_places (plan_for row) next live xs ts ls gs well k (omega arith) label ls' (omega (arith, room, few)) e));
       same = Prim.tt;
       others = unless_step_lem (moves present s i) _ (record { next_stays = refl; live_stays = refl; serials_stay = refl; templates_stay = refl; tags_stay = refl });
     }
 
 -- The identifier is within what a mask has.
-pub below-width : (M : ℕ) (risk : Bool) (allowed i q : ℕ) → answer_for q ≡ refusal_of M risk allowed i → M ≤ 32 → q ≡ 0 → i < 32
-below-width M risk allowed i q eq few z = let b = not_refused M risk allowed i q eq z in omega (arith, few, b)
+pub below-width : (M : ℕ) (risk : Bool) (allowed i : ℕ) → Done ≡ refusal_of M risk allowed i → M ≤ 32 → i < 32
+below-width M risk allowed i e few = let b = not_refused M risk allowed i e in omega (arith, few, b)
 
 -- ---- the label
 

@@ -5,12 +5,13 @@ ghost use Rattle.std.specs.Prelude.{◌≡◌, List, ℕ, ◌<◌, ◌≤◌, �
 ghost use Rattle.planrow.specs.Lookup.{plan_for};
 ghost use Rattle.machine.specs.Machine.{movable, label_with};
 ghost use Rattle.population.specs.Arrays.{cells};
-ghost use Rattle.population.specs.Lent.{settles, answer_for, Tried};
+ghost use Rattle.population.specs.Lent.{settles, Tried};
+ghost use Rattle.population.specs.Refusals.{done_or};
 ghost use Rattle.labelling.specs.Labelling.{moves, refusal_of};
 
-use machine::Answer;
 use plan::Template;
 use planrow::WORDS;
+use population::Refusal;
 
 // The mask of identifier i alone.
 fn single(i: u32) -> u32
@@ -27,21 +28,21 @@ fn movable_of(present: bool, t: Template) -> u32
     if present { t.pos } else { t.neg }
 }
 
-// The number of the first refusal from 27 to 29, and 0 where there is none.
-fn refusal(m: u32, risk: bool, allowed: u32, i: u32) -> u8
+// The first refusal from 27 to 29.
+fn permit(m: u32, risk: bool, allowed: u32, i: u32) -> Result<(), Refusal>
     requires { m ≤ 32 }
-    ensures { answer_for result ≡ refusal_of m risk allowed i }
+    ensures { done_or result ≡ refusal_of m risk allowed i }
 {
     if m <= i {
-        return population::NO_IDENTIFIER;
+        return Err(Refusal::NoIdentifier);
     }
     if !risk {
-        return population::NOT_AT_RISK;
+        return Err(Refusal::NotAtRisk);
     }
     if !mask::contains_u32(allowed, i) {
-        return population::NOT_ALLOWED;
+        return Err(Refusal::NotAllowed);
     }
-    0
+    Ok(())
 }
 
 // "The label has, or lacks, that identifier."
@@ -67,28 +68,21 @@ pub fn attempt<'a>(
     serial: u32,
     identifier: u32,
     present: bool,
-) -> Answer
+) -> Result<(), Refusal>
     ensures { let plan = plan_for row.now in
         ((next : ℕ) (tags : List ℕ) →
         let c = cells serials.now templates.now labels.old tags in
         let d = cells serials.now templates.now labels.new tags in
-        Tried plan next live c (moves present serial identifier) (settles result next live) d) }
+        Tried plan next live c (moves present serial identifier) (settles (done_or result) next live) d) }
 {
-    let n = arrays::index(live);
-    let k = arrays::place_of(serials, 0, live, serial);
-    if n <= k {
-        return Answer::Refused(population::NOT_LIVE);
-    }
+    let k = population::find(serials, live, serial)?;
     let m = planrow::identifier_count(row);
     if 32 < m {
-        return Answer::Refused(population::BAD_STATE);
+        return Err(Refusal::BadState);
     }
     let t = planrow::template_at(row, templates[k]);
-    let number = refusal(m, t.risk, movable_of(present, t), identifier);
-    if number != 0 {
-        return Answer::Refused(number);
-    }
+    permit(m, t.risk, movable_of(present, t), identifier)?;
     let label = label_with(present, labels[k], identifier);
-    arrays::put(labels, k, label);
-    Answer::Done
+    labels[k] = label;
+    Ok(())
 }

@@ -6,6 +6,7 @@ ghost use Rattle.machine.specs.State.{call_of};
 ghost use Rattle.planrow.specs.Row.{plan_of_row};
 ghost use Rattle.memory.specs.Memory.{held, Answers, Runs};
 
+use dispatch::Call;
 use planrow::WORDS;
 
 // One call on a plan's row and the lent state.
@@ -24,14 +25,11 @@ pub fn call<'a>(
         let k = held place.new serials.new templates.new labels.new tags.new in
         Answers (plan_of_row row.now) (call_of kind x y) h result k }
 {
-    let next = place[0];
-    let live = place[1];
-    let r = dispatch::run_call(
-        row, next, live, serials, templates, labels, tags, kind, x, y,
-    );
-    let answer = r.answer;
+    let [next, live] = *place;
+    let call = Call::from([kind, x, y]);
+    let r = dispatch::run_call(row, next, live, serials, templates, labels, tags, call);
     *place = [r.next, r.live];
-    running::code_of(answer) as u32
+    running::code_of(r.answer) as u32
 }
 
 // A list of calls, three words each; as many as there are words and places for.
@@ -49,8 +47,7 @@ pub fn run<'a>(
         let k = held place.new serials.new templates.new labels.new tags.new in
         Runs (plan_of_row row.now) calls.now h answers.old result k answers.new }
 {
-    let next = place[0];
-    let live = place[1];
+    let [next, live] = *place;
     let ran = running::run_calls(
         row, next, live, serials, templates, labels, tags, calls, answers,
     );

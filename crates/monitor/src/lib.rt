@@ -4,13 +4,15 @@
 
 ghost use Rattle.std.specs.Prelude.{◌≡◌};
 ghost use Rattle.machine.specs.Machine.{box_limits, step, send, raise, lower, run};
-ghost use Rattle.machine.specs.State.{machine_of, outcome_of, unless_done, call_of};
+ghost use Rattle.machine.specs.State.{machine_of, outcome_of, unless_done};
+ghost use Rattle.dispatch.specs.Calls.{meant};
 
+use dispatch::Call;
 use machine::{Answered, State};
 
 // One call on a state by value: its arrays are lent, and the state is built again.
-fn call(state: State, kind: u32, x: u32, y: u32) -> Answered
-    ensures { (outcome_of result ≡ run box_limits (machine_of state) (call_of kind x y)) × unless_done result.answer (result.state ≡ state) }
+fn call(state: State, call: Call) -> Answered
+    ensures { (outcome_of result ≡ run box_limits (machine_of state) (meant call)) × unless_done result.answer (result.state ≡ state) }
 {
     let plan = state.plan;
     let row = encoding::row_of(plan);
@@ -26,9 +28,7 @@ fn call(state: State, kind: u32, x: u32, y: u32) -> Answered
         &mut templates,
         &mut labels,
         &mut tags,
-        kind,
-        x,
-        y,
+        call,
     );
     let after = State {
         plan: plan,
@@ -50,26 +50,26 @@ fn call(state: State, kind: u32, x: u32, y: u32) -> Answered
 pub fn step(state: State, serial: u32, branch: u32) -> Answered
     ensures { (outcome_of result ≡ run box_limits (machine_of state) (step serial branch)) × unless_done result.answer (result.state ≡ state) }
 {
-    call(state, dispatch::STEP, serial, branch)
+    call(state, Call::Step { serial, branch })
 }
 
 // Document 01, Send. "The state stays."
 pub fn send(state: State, from: u32, to: u32) -> Answered
     ensures { (outcome_of result ≡ run box_limits (machine_of state) (send from to)) × (result.state ≡ state) }
 {
-    call(state, dispatch::SEND, from, to)
+    call(state, Call::Send { from, to })
 }
 
 // Document 01, Raise.
 pub fn raise(state: State, serial: u32, identifier: u32) -> Answered
     ensures { (outcome_of result ≡ run box_limits (machine_of state) (raise serial identifier)) × unless_done result.answer (result.state ≡ state) }
 {
-    call(state, dispatch::RAISE, serial, identifier)
+    call(state, Call::Raise { serial, identifier })
 }
 
 // Document 01, Lower.
 pub fn lower(state: State, serial: u32, identifier: u32) -> Answered
     ensures { (outcome_of result ≡ run box_limits (machine_of state) (lower serial identifier)) × unless_done result.answer (result.state ≡ state) }
 {
-    call(state, dispatch::LOWER, serial, identifier)
+    call(state, Call::Lower { serial, identifier })
 }

@@ -35,10 +35,8 @@ fn are_masks(words: &[u32], m: u32) -> bool
     ensures { result ≡ all (λ mask. ltb mask (2 ^ m)) (masks (template_of (word words.now))) }
 {
     let mut joined: u32 = 0;
-    let mut k: usize = MASK;
-    while k < RISK {
-        joined = joined | words[k];
-        k += 1;
+    for k in MASK..RISK {
+        joined |= words[k];
     }
     is_mask(joined, m)
 }
@@ -65,10 +63,8 @@ pub fn is_fitting(row: &[u32; WORDS]) -> bool
         return false;
     }
     let mut fits = true;
-    let mut i: u32 = 0;
-    while i < n {
-        fits = fits & template_fits(planrow::words_at(row, i), n, m);
-        i += 1;
+    for i in 0..n {
+        fits &= template_fits(planrow::words_at(row, i), n, m);
     }
     fits
 }

@@ -1,44 +1,45 @@
 -- A template looked up in a row is that of the plan that the row stands for.
 use Prim.Native.Nat.{ℕ, ◌≤◌, ◌<◌}
-use mathlib.Core.Path.{◌≡◌, refl, sym, ap, ◌∙◌}
-use mathlib.Core.Bool.{Bool, true, false, not, cond, ◌&&◌}
+use mathlib.Core.Path.{◌≡◌, refl, sym, ap, ap₂, ◌∙◌}
+use mathlib.Core.Bool.{Bool, true, false, cond, ◌&&◌}
 use mathlib.Core.List.{List}
 use mathlib.Core.Option.{none, some}
 use native.Mathlib.Omega.{arith}
+use Rattle.std.proofs.Common.{Option, Some, None, unwrap_or}
 use lib.ListN.{get_or}
 use lib.Dec.{ltb}
-use borrow.Author.Tests.{lt-ltb, le-ltb, not-true, not-false}
+use borrow.Author.Tests.{lt-ltb, le-ltb}
 use Rattle.lists.proofs.Tabulate.{get_or-tabulate}
 use Rattle.plan.specs.declared.Template.{Template}
 use Rattle.plan.specs.declared.Plan.{Plan}
 use Rattle.plan.specs.Plan.{blank, at}
 use Rattle.text.specs.Reading.{no_plan}
 use Rattle.planrow.specs.Row.{count_in, identifiers_in, word_at, template_of, is_template, template_in, is_plan, plan_in, plan_of_row}
-use Rattle.planrow.specs.Lookup.{part_at, word, plan_for, template_at}
+use Rattle.planrow.specs.Lookup.{part_at, word, template_meant, plan_for, template_at}
 use Rattle.planrow.proofs.Parts.{part-tested, part-template}
 use Rattle.planrow.proofs.Reading.{plan_count, plan-template}
 
--- ---- the ways of a look-up; ws are the words, and b is the answer of `is_template`
+-- ---- the ways of a look-up
 
 module _ (row : List ℕ) (X : ℕ) where
   pub look_past : 64 ≤ X → blank ≡ template_at row X
   unfolding template_at
   look_past h = sym (ap (λ (b : Bool). cond (b && is_template (word_at row X)) (template_in row X) blank) (le-ltb X 64 h))
 
-  inside : X < 64 → (b : Bool) → is_template (word_at row X) ≡ b → template_at row X ≡ cond b (template_in row X) blank
+  inside : X < 64 → template_at row X ≡ cond (is_template (word_at row X)) (template_in row X) blank
   unfolding template_at
-  inside h b e = rw (lt-ltb X 64 h, e)
+  inside h = rw (lt-ltb X 64 h) refl
 
-  pub look_not : (ws : List ℕ) (b : Bool) → X < 64 → ws ≡ part_at row X → b ≡ is_template (word ws) → not b ≡ true → blank ≡ template_at row X
-  look_not ws b h w e n = sym (inside h false (sym (part-tested row X ws w) ∙ sym e ∙ not-true b n))
-
-  pub look_so : (ws : List ℕ) (b : Bool) (t : Template) → X < 64 → ws ≡ part_at row X → b ≡ is_template (word ws) → not b ≡ false → t ≡ template_of (word ws)
-      → t ≡ template_at row X
-  look_so ws b t h w e n q =
-      q ∙ part-template row X ws w ∙ sym (inside h true (sym (part-tested row X ws w) ∙ sym e ∙ not-false b n))
-
-pub look_means : (ws : List ℕ) (b : Bool) → b ≡ is_template (word ws) → not b ≡ false → is_template (word ws) ≡ true
-look_means ws b e n = sym e ∙ not-false b n
+  -- ws are the words, o the template that they stand for.
+  pub looked : X < 64 → (ws : List ℕ) → ws ≡ part_at row X → (o : Option Template) → o ≡ template_meant (word ws)
+      → (b : Template) → b ≡ blank → (r : Template) → r ≡ unwrap_or o b → r ≡ template_at row X
+  looked h ws w o eo b eb r er =
+      er ∙ ap₂ unwrap_or eo eb ∙ or_blank (is_template (word ws)) (template_of (word ws))
+      ∙ ap₂ (λ (b : Bool) (t : Template). cond b t blank) (part-tested row X ws w) (part-template row X ws w) ∙ sym (inside h)
+    where
+      or_blank : (b : Bool) (t : Template) → unwrap_or (cond b (Some t) None) blank ≡ cond b t blank
+      or_blank true t = refl
+      or_blank false t = refl
 
 -- ---- a row that means a plan
 
@@ -86,4 +87,5 @@ module _ (row : List ℕ) (e : is_plan row ≡ true) where
 
   pub looked_up : (X : ℕ) → X < count_in row → template_at row X ≡ at (plan_for row) X
   looked_up X h =
-      inside row X (let q = plan_count row e in omega arith) true (plan-template row e X h) ∙ sym (stands_at X h)
+      inside row X (let q = plan_count row e in omega arith)
+      ∙ ap (λ (b : Bool). cond b (template_in row X) blank) (plan-template row e X h) ∙ sym (stands_at X h)

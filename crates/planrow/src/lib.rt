@@ -1,9 +1,9 @@
 // A plan as a row of words: where they stand, and a template looked up in them.
 #![tactic(auto)]
 
-ghost use Rattle.std.specs.Prelude.{◌≡◌, true, ◌<◌, length};
-ghost use Rattle.planrow.specs.Row.{width, count_in, identifiers_in, form_of, template_of, is_template};
-ghost use Rattle.planrow.specs.Lookup.{word, part_at, template_at};
+ghost use Rattle.std.specs.Prelude.{◌≡◌, ◌<◌, length};
+ghost use Rattle.planrow.specs.Row.{width, count_in, identifiers_in, form_of, is_template};
+ghost use Rattle.planrow.specs.Lookup.{word, part_at, template_meant, template_at};
 
 use plan::{Form, Template};
 
@@ -57,44 +57,39 @@ fn is_template(words: &[u32]) -> bool
 fn form_of(number: u32, y: u8, z: u8) -> Form
     ensures { result ≡ form_of number y z }
 {
-    if number == 0 {
-        return Form::End;
+    match number {
+        0 => Form::End,
+        1 => Form::Go(y),
+        2 => Form::Either(y, z),
+        _ => Form::Both(y, z),
     }
-    if number == 1 {
-        return Form::Go(y);
-    }
-    if number == 2 {
-        return Form::Either(y, z);
-    }
-    Form::Both(y, z)
 }
 
-// The template that its words stand for.
-fn template_in(words: &[u32]) -> Template
-    requires { (length words.now ≡ width) × (is_template (word words.now) ≡ true) }
-    ensures { result ≡ template_of (word words.now) }
+// The template that its words stand for, if they stand for one.
+fn template_in(words: &[u32]) -> Option<Template>
+    requires { length words.now ≡ width }
+    ensures { result ≡ template_meant (word words.now) }
 {
-    let form = form_of(words[0], words[1] as u8, words[2] as u8);
-    Template {
-        form: form,
+    if !is_template(words) {
+        return None;
+    }
+    Some(Template {
+        form: form_of(words[0], words[1] as u8, words[2] as u8),
         lab: words[3],
         pos: words[4],
         neg: words[5],
         creates: words[6],
         risk: words[RISK] == 1,
-    }
+    })
 }
 
 // The template whose words stand at x, and the blank one where they are none.
 pub fn template_at(row: &[u32; WORDS], x: u32) -> Template
     ensures { result ≡ template_at row.now x }
 {
+    let blank = plan::blank_template();
     if 64 <= x {
-        return plan::blank_template();
+        return blank;
     }
-    let words = words_at(row, x);
-    if !is_template(words) {
-        return plan::blank_template();
-    }
-    template_in(words)
+    template_in(words_at(row, x)).unwrap_or(blank)
 }

@@ -1,6 +1,6 @@
 -- The calls on lent arrays, up to where each call's own refusals begin: 20, and where a serial is found or is not.
 -- As the code meets it: g is the answer of `is_well_formed`, k that of `place_of`.
-use Prim.Native.Nat.{ℕ, zero, suc, ◌≤◌, ◌<◌}
+use Prim.Native.Nat.{ℕ, ◌≤◌, ◌<◌}
 use mathlib.Core.Path.{◌≡◌, refl, sym, ap, ◌∙◌, subst}
 use mathlib.Core.Bool.{Bool, true, false, not}
 use mathlib.Core.List.{List}
@@ -22,7 +22,7 @@ use Rattle.machine.specs.Machine.{Call, step, send, raise, lower, box_limits, pl
 use Rattle.machine.specs.State.{Cells, placed, processes_of, machine_from, unless_done}
 use Rattle.machine.proofs.Places.{find_live, find_gone, places_differ}
 use Rattle.population.specs.declared.Settled.{Settled}
-use Rattle.population.specs.Lent.{settles, outcome_from, Same, LabelsAlone, unless_step, Did, Tried, answer_for}
+use Rattle.population.specs.Lent.{settles, outcome_from, Same, LabelsAlone, unless_step, Did, Tried}
 use Rattle.population.proofs.Fits.{formed_rising, formed_live, formed_serials, formed_few}
 
 -- ---- the ways out of a call
@@ -34,11 +34,6 @@ unless_step_lem (step s branch) P p = Prim.tt
 unless_step_lem (send from to) P p = p
 unless_step_lem (raise s i) P p = p
 unless_step_lem (lower s i) P p = p
-
--- The answer of a number that is not 0 is a refusal.
-pub numbered : (q : ℕ) → (q ≡ 0 → ⊥) → answer_for q ≡ Refused q
-numbered zero n = absurd (n refl)
-numbered (suc q) n = refl
 
 module _ (plan : Plan) (next live : ℕ) (c : Cells) where
   -- Whatever was answered, nothing was touched.
@@ -102,10 +97,6 @@ module _ (M live : ℕ) (c : Cells) (s k : ℕ) (ek : k ≡ lowest live (λ i. e
       eqb-true (get_or c.serials k 0) s
       (subst (λ (k : ℕ). eqb (get_or c.serials k 0) s ≡ true) (sym ek)
       (lowest-holds live (λ i. eqb (get_or c.serials i 0) s) (subst (λ (k : ℕ). k < live) ek h)))
-
--- A place that was found is one of the array's.
-pub place_within : (xs : List ℕ) (live n s k : ℕ) → n ≡ live → Located xs 0 live s k → length xs ≡ 128 → k < n → k < 128
-place_within xs live n s k en at e h = let q = at.there (omega (arith, en, h)) in omega (arith, q, e, h, en)
 
 -- Of a state that is not bad the serials rise, so that what was looked for is found.
 module _ (plan : Plan) (next live : ℕ) (c : Cells) (well : well_formed box_limits (machine_from plan next live c) ≡ true) where

@@ -1,10 +1,9 @@
 -- What a call on lent arrays promises: the answer and what the arrays mean at its end are the machine's outcome; unless it
 -- is done, next, live and the arrays are literally as they were, and unless it is a step, all but the labels are.
 -- Not to be believed: the contracts of the operations by value do not name it.
-use Rattle.std.specs.Prelude.{ℕ, zero, suc, ◌≡◌, true}
+use Rattle.std.specs.Prelude.{ℕ, ◌≡◌, true}
 use Rattle.plan.specs.declared.Plan.{Plan}
 use Rattle.machine.specs.declared.Answer.{Answer}
-use Rattle.machine.specs.declared.Answer.TheVariants.{Done, Refused}
 use Rattle.machine.specs.Machine.{Outcome, Call, step, send, raise, lower, box_limits, well_formed, answer_to, run}
 use Rattle.machine.specs.State.{Cells, machine_from, unless_done}
 use Rattle.population.specs.declared.Settled.{Settled}
@@ -49,8 +48,3 @@ pub record Tried (plan : Plan) (next live : ℕ) (cells : Cells) (call : Call) (
       → outcome_from plan r cells' ≡ answer_to box_limits (machine_from plan next live cells) call
   pub same : unless_done r.answer (Same next live cells r cells')
   pub others : unless_step call (LabelsAlone next live cells r cells')
-
--- The answer of a refusal's number, and Done for 0.
-abbrev pub answer_for : ℕ → Answer
-answer_for zero = Done
-answer_for (suc n) = Refused (suc n)

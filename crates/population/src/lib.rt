@@ -7,30 +7,79 @@ ghost use Rattle.machine.specs.Machine.{box_limits, well_formed};
 ghost use Rattle.machine.specs.State.{machine_from};
 ghost use Rattle.population.specs.Arrays.{cells, parts_fit};
 ghost use Rattle.population.specs.Lent.{settles};
+ghost use Rattle.population.specs.Refusals.{number_of, refused, Found};
 
 use machine::Answer;
+use plan::Template;
 use planrow::WORDS;
 
-// Document 01's numbers of the refusals of step, send, raise and lower.
-pub const BAD_STATE: u8 = 20;
+// Why a call is refused: document 01's numbers 20 to 29, in this order.
+#[derive(Clone, Copy)]
+pub enum Refusal {
+    BadState,
+    NotLive,
+    NoBranch,
+    NoRoom,
+    NoSerial,
+    BadLabel,
+    ToItself,
+    NoIdentifier,
+    NotAtRisk,
+    NotAllowed,
+}
 
-pub const NOT_LIVE: u8 = 21;
+impl From<Refusal> for u8 {
+    ghost from_gives = { λ refusal number. number ≡ number_of refusal };
 
-pub const NO_BRANCH: u8 = 22;
+    fn from(refusal: Refusal) -> u8 {
+        match refusal {
+            Refusal::BadState => 20,
+            Refusal::NotLive => 21,
+            Refusal::NoBranch => 22,
+            Refusal::NoRoom => 23,
+            Refusal::NoSerial => 24,
+            Refusal::BadLabel => 25,
+            Refusal::ToItself => 26,
+            Refusal::NoIdentifier => 27,
+            Refusal::NotAtRisk => 28,
+            Refusal::NotAllowed => 29,
+        }
+    }
+}
 
-pub const NO_ROOM: u8 = 23;
+impl From<Refusal> for Answer {
+    ghost from_gives = { λ refusal answer. answer ≡ refused refusal };
 
-pub const NO_SERIAL: u8 = 24;
+    fn from(refusal: Refusal) -> Answer {
+        Answer::Refused(u8::from(refusal))
+    }
+}
 
-pub const BAD_LABEL: u8 = 25;
+// The place of the process of that serial. Document 01, 21: "that serial is not live".
+pub fn find(serials: &[u32; 128], live: u32, serial: u32) -> Result<usize, Refusal>
+    ensures { Found serials.now live serial result }
+{
+    let k = arrays::place_of(serials, 0, live, serial);
+    if live as usize <= k {
+        return Err(Refusal::NotLive);
+    }
+    Ok(k)
+}
 
-pub const TO_ITSELF: u8 = 26;
+// A child's template, by its number too.
+#[derive(Clone, Copy)]
+pub struct Child {
+    pub number: u32,
+    pub template: Template,
+}
 
-pub const NO_IDENTIFIER: u8 = 27;
-
-pub const NOT_AT_RISK: u8 = 28;
-
-pub const NOT_ALLOWED: u8 = 29;
+// The children of a step: the first `count` of two, the first with the lower serial.
+#[derive(Clone, Copy)]
+pub struct Children {
+    pub count: u8,
+    pub first: Child,
+    pub second: Child,
+}
 
 // What a call leaves beside the arrays.
 #[derive(Clone, Copy)]
@@ -43,11 +92,7 @@ pub struct Settled {
 pub fn settle(answer: Answer, next: u32, live: u32) -> Settled
     ensures { result ≡ settles answer next live }
 {
-    Settled {
-        answer: answer,
-        next: next,
-        live: live,
-    }
+    Settled { answer, next, live }
 }
 
 // The processes' part of refusal 20, of parts of any length: N templates, M identifiers.
@@ -64,7 +109,7 @@ pub fn are_fitting<'a>(
     ensures { let c = cells serials.now templates.now labels.now tags.now in
         result ≡ parts_fit count m next live c }
 {
-    let n = arrays::index(live);
+    let n = live as usize;
     let top = mask::full_mask(m);
     let used = tagrows::row_start(live, m);
     ranges::is_rising(serials, 0, n)

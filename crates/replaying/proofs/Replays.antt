@@ -15,7 +15,7 @@ use Rattle.rules.specs.Broken.{accepted}
 use Rattle.rules.proofs.Walk.{accepted_is}
 use Rattle.machine.specs.declared.State.{State}
 use Rattle.machine.specs.Machine.{Machine, Call, box_limits}
-use Rattle.machine.specs.State.{machine_of, blank_state, root_state, state_on, started_state, started}
+use Rattle.machine.specs.State.{machine_of, root_state, state_on, started_state, started}
 use Rattle.starting.proofs.Starting.{root_machine, not_accepted, stays_blank}
 use Rattle.promise.specs.History.{world_after}
 use Rattle.promise.specs.Replay.{machine_after, calls_in}

@@ -37,13 +37,13 @@ pub fn play<'a>(state: State, calls: &'a [u32], answers: &'a mut [u8]) -> Ran
         answers,
     );
     let after = State {
-        plan: plan,
+        plan,
         next: r.next,
         live: r.live,
-        serials: serials,
-        templates: templates,
-        labels: labels,
-        tags: tags,
+        serials,
+        templates,
+        labels,
+        tags,
     };
     Ran {
         state: after,
@@ -51,8 +51,8 @@ pub fn play<'a>(state: State, calls: &'a [u32], answers: &'a mut [u8]) -> Ran
     }
 }
 
-// What replay hands back: the judge's verdict, how many calls were played, and the state after them, blank where the
-// verdict is not accepted.
+// What replay hands back: the judge's verdict, how many calls were played, and the state after them. A struct and no Result:
+// where the verdict is not accepted the documents promise the blank state.
 #[derive(Clone, Copy)]
 pub struct Replayed {
     pub verdict: Verdict,
@@ -74,16 +74,15 @@ pub fn replay<'a>(
     let state = started.state;
     if !rules::is_accepted(verdict) {
         return Replayed {
-            verdict: verdict,
+            verdict,
             count: 0,
-            state: state,
+            state,
         };
     }
     let ran = play(state, calls, answers);
-    let left = ran.state;
     Replayed {
-        verdict: verdict,
+        verdict,
         count: ran.count,
-        state: left,
+        state: ran.state,
     }
 }

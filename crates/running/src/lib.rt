@@ -6,6 +6,7 @@ ghost use Rattle.planrow.specs.Lookup.{plan_for};
 ghost use Rattle.machine.specs.State.{code_of};
 ghost use Rattle.playback.specs.Running.{memory, machine_in, Leaves, PlayedAll};
 
+use dispatch::Call;
 use machine::Answer;
 use planrow::WORDS;
 
@@ -33,8 +34,7 @@ pub fn code_of(answer: Answer) -> u8
 fn call_count(words: usize, places: usize) -> usize
     ensures { (result ≡ min (words / 3) places) × (result * 3 ≤ words) × (result ≤ places) }
 {
-    let calls = words / 3;
-    if calls < places { calls } else { places }
+    (words / 3).min(places)
 }
 
 // The calls in order, as many as there are words and places for.
@@ -57,25 +57,13 @@ pub fn run_calls<'a>(
     let n = call_count(calls.len(), answers.len());
     let mut z = next;
     let mut l = live;
-    let mut i: usize = 0;
-    while i < n {
-        let r = dispatch::run_call(
-            row,
-            z,
-            l,
-            serials,
-            templates,
-            labels,
-            tags,
-            calls[i * 3],
-            calls[i * 3 + 1],
-            calls[i * 3 + 2],
-        );
+    for i in 0..n {
+        let words = [calls[i * 3], calls[i * 3 + 1], calls[i * 3 + 2]];
+        let call = Call::from(words);
+        let r = dispatch::run_call(row, z, l, serials, templates, labels, tags, call);
         z = r.next;
         l = r.live;
-        let answer = r.answer;
-        answers[i] = code_of(answer);
-        i += 1;
+        answers[i] = code_of(r.answer);
     }
     Place {
         next: z,

@@ -8,7 +8,7 @@ ghost use Rattle.machine.specs.State.{placed, processes_of};
 ghost use Rattle.population.specs.Arrays.{cells};
 ghost use Rattle.spawning.specs.Spawning.{skipping, Entered, Room, Advanced};
 
-use plan::Template;
+use population::{Child, Children};
 
 // The process at place k goes: those above it, up to the last, move down.
 fn leave<'a>(
@@ -34,15 +34,13 @@ fn leave<'a>(
     blocks::shift(tags, from, to, m as usize);
 }
 
-// A child at template y comes to the place after the others, if it is to come; row holds its parent's tags.
+// A child comes to the place after the others, if it is to come; row holds its parent's tags.
 fn enter<'a>(
     comes: bool,
     m: u32,
     at: u32,
     serial: u32,
-    y: u32,
-    lab: u32,
-    creates: u32,
+    child: Child,
     row: [u32; 32],
     serials: &'a mut [u32; 128],
     templates: &'a mut [u32; 128],
@@ -51,30 +49,26 @@ fn enter<'a>(
 )
     ensures { let c = cells serials.old templates.old labels.old tags.old in
         let d = cells serials.new templates.new labels.new tags.new in
-        Entered comes m at row serial y lab creates c d }
+        Entered comes m at row serial child.number child.template.lab child.template.creates c d }
 {
     if comes {
         let place = at as usize;
         arrays::put(serials, place, serial);
-        arrays::put(templates, place, y);
-        arrays::put(labels, place, lab);
+        arrays::put(templates, place, child.number);
+        arrays::put(labels, place, child.template.lab);
         let from = tagrows::row_start(at, m);
-        tagrows::write_row(tags, from, row, creates, serial);
+        tagrows::write_row(tags, from, row, child.template.creates, serial);
     }
 }
 
-// Document 01, Step: "Else the process goes". Its children are at the first count of templates y and z, the first with the
-// lower serial; their parent's tags are copied before it goes.
+// Document 01, Step: "Else the process goes". Its children come, the first with the lower serial; their parent's tags are
+// copied before it goes.
 pub fn advance<'a>(
     m: u32,
     next: u32,
     k: u32,
     last: u32,
-    count: u8,
-    y: u32,
-    first: Template,
-    z: u32,
-    second: Template,
+    children: Children,
     serials: &'a mut [u32; 128],
     templates: &'a mut [u32; 128],
     labels: &'a mut [u32; 128],
@@ -82,19 +76,20 @@ pub fn advance<'a>(
 )
     ensures { let c = cells serials.old templates.old labels.old tags.old in
         let d = cells serials.new templates.new labels.new tags.new in
-        (Room m next k last count → Advanced m next k last c count y first z second d) }
+        let first = children.first in
+        let second = children.second in
+        (Room m next k last children.count →
+        Advanced m next k last c children.count first.number first.template second.number second.template d) }
 {
     let from = tagrows::row_start(k, m);
     let row = tagrows::copy_row(tags, from);
     leave(m, k, last, serials, templates, labels, tags);
     enter(
-        1 <= count,
+        1 <= children.count,
         m,
         last,
         next,
-        y,
-        first.lab,
-        first.creates,
+        children.first,
         row,
         serials,
         templates,
@@ -105,13 +100,11 @@ pub fn advance<'a>(
     let at = std::num::wrapping_add_u32(last, 1);
     let serial = std::num::wrapping_add_u32(next, 1);
     enter(
-        2 <= count,
+        2 <= children.count,
         m,
         at,
         serial,
-        z,
-        second.lab,
-        second.creates,
+        children.second,
         row,
         serials,
         templates,

@@ -8,29 +8,24 @@ ghost use Rattle.machine.specs.State.{machine_of, blank_state, root_state, start
 use machine::{Started, State};
 use plan::Plan;
 
-// What stands beside a verdict that is not accepted.
+// What stands beside a verdict that is not accepted: the documents promise the blank state, so start hands back a struct and no
+// Result.
 fn blank_state() -> State
     ensures { result ≡ blank_state }
 {
     let blank = plan::blank_template();
-    let none = [blank; 64];
-    let plan = Plan {
-        count: 0,
-        identifiers: 0,
-        templates: none,
-    };
-    let serials = [0u32; 128];
-    let templates = [0u32; 128];
-    let labels = [0u32; 128];
-    let tags = [0u32; 4096];
     State {
-        plan: plan,
+        plan: Plan {
+            count: 0,
+            identifiers: 0,
+            templates: [blank; 64],
+        },
         next: 0,
         live: 0,
-        serials: serials,
-        templates: templates,
-        labels: labels,
-        tags: tags,
+        serials: [0; 128],
+        templates: [0; 128],
+        labels: [0; 128],
+        tags: [0; 4096],
     }
 }
 
@@ -39,18 +34,14 @@ fn root_state(plan: Plan) -> State
     ensures { result ≡ root_state plan }
 {
     let root = plan::template_at(plan, 0);
-    let serials = [0u32; 128];
-    let templates = [0u32; 128];
-    let labels = [root.lab; 128];
-    let tags = [0u32; 4096];
     State {
-        plan: plan,
+        plan,
         next: 1,
         live: 1,
-        serials: serials,
-        templates: templates,
-        labels: labels,
-        tags: tags,
+        serials: [0; 128],
+        templates: [0; 128],
+        labels: [root.lab; 128],
+        tags: [0; 4096],
     }
 }
 
@@ -60,17 +51,10 @@ pub fn start<'a>(plan: &'a [u8], policy: &'a [u8]) -> Started
 {
     let verdict = verdict::judge(plan, policy);
     if !rules::is_accepted(verdict) {
-        let blank = blank_state();
-        return Started {
-            verdict: verdict,
-            state: blank,
-        };
+        let state = blank_state();
+        return Started { verdict, state };
     }
     let read = reader::read_plan(plan);
-    let templates = read.plan;
-    let state = root_state(templates);
-    Started {
-        verdict: verdict,
-        state: state,
-    }
+    let state = root_state(read.plan);
+    Started { verdict, state }
 }

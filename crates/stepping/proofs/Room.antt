@@ -10,18 +10,18 @@ use lib.Dec.{leb, eqb}
 use borrow.Author.Tests.{leb-true, eq-eqb, not-false}
 use Rattle.lists.proofs.Tests.{lt_or_le}
 use Rattle.plan.specs.declared.Template.{Template}
-use Rattle.population.specs.Lent.{answer_for}
+use Rattle.machine.specs.declared.Answer.TheVariants.{Done}
 use Rattle.machine.proofs.Outcomes.{refuse_done}
 use Rattle.admission.specs.Admission.{refusal_of}
 use Rattle.spawning.specs.Spawning.{Room}
 
-module _ (M next live label : ℕ) (X : Template) (branch count : ℕ) (t u : Template) (q k : ℕ)
-    (e : answer_for q ≡ refusal_of M next live label X branch count t u) (z : q ≡ 0)
+module _ (M next live label : ℕ) (X : Template) (branch count : ℕ) (t u : Template) (k : ℕ)
+    (e : Done ≡ refusal_of M next live label X branch count t u)
     (few : M ≤ 32) (h : k < live) (l : live ≤ 128) (n : count ≤ 2) where
   pub room_left : Room M next k (live - 1) count
   unfolding refusal_of
   room_left =
-      let d = refuse_done _ 22 _ (sym e ∙ ap answer_for z) in
+      let d = refuse_done _ 22 _ (sym e) in
       let d23 = refuse_done (eqb count 2 && not (leb (live + 1) 128)) 23 _ d.1 in
       let d24 = refuse_done (not (leb (next + count) 4294967295)) 24 _ d23.1 in
       record {

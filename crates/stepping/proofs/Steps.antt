@@ -32,9 +32,9 @@ use Rattle.arrays.specs.Places.{Located}
 use Rattle.tagrows.specs.Rows.{child_tag}
 use Rattle.population.specs.declared.Settled.{Settled}
 use Rattle.population.specs.Arrays.{cells}
-use Rattle.population.specs.Lent.{settles, outcome_from, unless_step, Tried, answer_for}
+use Rattle.population.specs.Lent.{settles, outcome_from, unless_step, Tried}
 use Rattle.population.proofs.Fits.{length_processes, formed_plan, formed_template, formed_identifiers, formed_few, formed_lookup, looked_at}
-use Rattle.population.proofs.Lent.{numbered, untouched, tried_same, placed_at, found_none, found_some, found_serial, alone}
+use Rattle.population.proofs.Lent.{untouched, tried_same, placed_at, found_none, found_some, found_serial, alone}
 use Rattle.admission.specs.Admission.{innocent, fitting, all_fitting, refusal_of}
 use Rattle.spawning.specs.Spawning.{skipping, newborn, newborns, Room, Advanced}
 use Rattle.stepping.specs.Stepping.{SteppedAt}
@@ -85,14 +85,14 @@ module _ (plan : Plan) (next live : ℕ) (c : Cells) (k branch : ℕ) (well : we
 
   module _ (t : Template) (et : t ≡ at plan (get_or c.templates k 0)) (heirs : Successors) (eh : listed heirs ≡ children t.form branch) (few : heirs.count ≤ 2)
       (first second : Template) (e₁ : first ≡ at plan heirs.first) (e₂ : second ≡ at plan heirs.second)
-      (q : ℕ) (eq : answer_for q ≡ refusal_of plan.identifiers next live (get_or c.labels k 0) t branch heirs.count first second) where
+      (a : Answer) (eq : a ≡ refusal_of plan.identifiers next live (get_or c.labels k 0) t branch heirs.count first second) where
     abbrev templates : List ℕ
     templates = children (at plan (get_or c.templates k 0)).form branch
 
     same_templates : templates ≡ list_for heirs.count heirs.first heirs.second
     same_templates = ap (λ (t : Template). children t.form branch) (sym et) ∙ sym eh
 
-    answers : step_answer box_limits (machine_from plan next live c) (placed M c k) branch templates ≡ answer_for q
+    answers : step_answer box_limits (machine_from plan next live c) (placed M c k) branch templates ≡ a
     unfolding step_answer machine_from placed refusal_of
     answers =
         ap (λ (ts : List ℕ). order (at plan (get_or c.templates k 0)).form (length (processes_of M live c)) (length ts) (all (may_become plan (get_or c.labels k 0) (get_or c.templates k 0)) ts)) same_templates
@@ -116,16 +116,16 @@ module _ (plan : Plan) (next live : ℕ) (c : Cells) (k branch : ℕ) (well : we
     abbrev Stepped : Settled → Cells → Type 0
     Stepped r d = outcome_from plan r d ≡ step_by box_limits (machine_from plan next live c) (get_or c.serials k 0) branch (some (placed plan.identifiers c k))
 
-    step_refused : (q ≡ 0 → ⊥) → Stepped (settles (Refused q) next live) c
+    step_refused : (n : ℕ) → a ≡ Refused n → Stepped (settles (Refused n) next live) c
     unfolding step_by machine_from placed
-    step_refused n = sym (settled_refused _ _ _ q (answers ∙ numbered q n))
+    step_refused n e = sym (settled_refused _ _ _ n (answers ∙ e))
 
-    step_done : (d : Cells) → q ≡ 0 → Advanced plan.identifiers next k (live - 1) c heirs.count heirs.first first heirs.second second d
+    step_done : (d : Cells) → a ≡ Done → Advanced plan.identifiers next k (live - 1) c heirs.count heirs.first first heirs.second second d
         → Stepped (settles Done (next + heirs.count) (live - 1 + heirs.count)) d
     unfolding step_by stepped machine_from placed
     step_done d z w =
         (λ i. record { answer = Done; machine = record { plan = plan; next = serials i; live = processes i } })
-        ∙ sym (settled_done _ _ _ (answers ∙ ap answer_for z))
+        ∙ sym (settled_done _ _ _ (answers ∙ z))
       where
         serials : next + heirs.count ≡ next + length templates
         serials = ap (λ (n : ℕ). next + n) (sym (ap length same_templates ∙ length-listed heirs.count heirs.first heirs.second few))
@@ -152,17 +152,16 @@ all_next n (y ∷ ys) h e = all_head n ys h (and_right (ltb y n) _ e)
 
 module _ (row : List ℕ) (next live : ℕ) (c : Cells) (k branch : ℕ) (h : k < live) (w : ℕ) (ew : w ≡ identifiers_in row) where
   -- A row of more than 32 identifiers means a bad state.
-  pub place_wide : 32 < w → (r : Settled) → r ≡ settles (Refused 20) next live → SteppedAt (plan_for row) next live c k branch r c
-  place_wide l r er =
-      subst (λ (r : Settled). SteppedAt (plan_for row) next live c k branch r c) (sym er) (record {
-        means = λ well. absurd (formed_few row next live c well w ew l);
-        same = untouched (plan_for row) next live c (Refused 20);
-      })
+  pub place_wide : 32 < w → SteppedAt (plan_for row) next live c k branch (settles (Refused 20) next live) c
+  place_wide l = record {
+    means = λ well. absurd (formed_few row next live c well w ew l);
+    same = untouched (plan_for row) next live c (Refused 20);
+  }
 
   module _ (t : Template) (looked : t ≡ template_at row (get_or c.templates k 0)) (heirs : Successors) (eh : listed heirs ≡ children t.form branch) (few : heirs.count ≤ 2)
       (ef : heirs.first ≡ get_or (children t.form branch) 0 0) (es : heirs.second ≡ get_or (children t.form branch) 1 0)
       (first second : Template) (l₁ : first ≡ template_at row heirs.first) (l₂ : second ≡ template_at row heirs.second)
-      (q : ℕ) (eq : answer_for q ≡ refusal_of w next live (get_or c.labels k 0) t branch heirs.count first second) where
+      (a : Answer) (eq : a ≡ refusal_of w next live (get_or c.labels k 0) t branch heirs.count first second) where
     module _ (well : well_formed box_limits (machine_from (plan_for row) next live c) ≡ true) where
       found : t ≡ at (plan_for row) (get_or c.templates k 0)
       found = looked_at row next live c well k h t looked
@@ -188,31 +187,30 @@ module _ (row : List ℕ) (next live : ℕ) (c : Cells) (k branch : ℕ) (h : k 
       M-is : (plan_for row).identifiers ≡ w
       M-is = formed_identifiers row next live c well ∙ sym ew
 
-      eq' : answer_for q ≡ refusal_of (plan_for row).identifiers next live (get_or c.labels k 0) t branch heirs.count first second
+      eq' : a ≡ refusal_of (plan_for row).identifiers next live (get_or c.labels k 0) t branch heirs.count first second
       eq' = eq ∙ ap (λ (M : ℕ). refusal_of M next live (get_or c.labels k 0) t branch heirs.count first second) (sym M-is)
 
-    pub place_refused : (r : Settled) → (q ≡ 0 → ⊥) → r ≡ settles (Refused q) next live → SteppedAt (plan_for row) next live c k branch r c
-    place_refused r n er =
-        subst (λ (r : Settled). SteppedAt (plan_for row) next live c k branch r c) (sym er) (record {
-          means = λ well. step_refused (plan_for row) next live c k branch well h t (found well) heirs eh few first second (e₁ well) (e₂ well) q (eq' well) n;
-          same = untouched (plan_for row) next live c (Refused q);
-        })
+    pub place_refused : (n : ℕ) → a ≡ Refused n → SteppedAt (plan_for row) next live c k branch (settles (Refused n) next live) c
+    place_refused n e = record {
+      means = λ well. step_refused (plan_for row) next live c k branch well h t (found well) heirs eh few first second (e₁ well) (e₂ well) a (eq' well) n e;
+      same = untouched (plan_for row) next live c (Refused n);
+    }
 
-    pub place_done : (r : Settled) (d : Cells) → q ≡ 0 → Room w next k (live - 1) heirs.count
+    pub place_done : (r : Settled) (d : Cells) → a ≡ Done → Room w next k (live - 1) heirs.count
         → (Room w next k (live - 1) heirs.count → Advanced w next k (live - 1) c heirs.count heirs.first first heirs.second second d)
         → r ≡ settles Done (next + heirs.count) (live - 1 + heirs.count) → SteppedAt (plan_for row) next live c k branch r d
     unfolding unless_done
     place_done r d z room v er =
         subst (λ (r : Settled). SteppedAt (plan_for row) next live c k branch r d) (sym er) (record {
           means = λ well.
-              step_done (plan_for row) next live c k branch well h t (found well) heirs eh few first second (e₁ well) (e₂ well) q (eq' well) d z
+              step_done (plan_for row) next live c k branch well h t (found well) heirs eh few first second (e₁ well) (e₂ well) a (eq' well) d z
               (subst (λ (M : ℕ). Advanced M next k (live - 1) c heirs.count heirs.first first heirs.second second d) (sym (M-is well)) (v room));
           same = Prim.tt;
         })
 
--- ---- 21 and the rest; n is live as an index
+-- ---- 21 and the rest
 
-module _ (row : List ℕ) (next live n : ℕ) (xs ts ls gs : List ℕ) (serial branch : ℕ) (r : Settled) (en : n ≡ live) (sized : length xs ≡ 128) (k : ℕ) (at-k : Located xs 0 live serial k) where
+module _ (row : List ℕ) (next live : ℕ) (xs ts ls gs : List ℕ) (serial branch : ℕ) (sized : length xs ≡ 128) (k : ℕ) (at-k : Located xs 0 live serial k) where
   abbrev c : Cells
   c = cells xs ts ls gs
 
@@ -222,26 +220,22 @@ module _ (row : List ℕ) (next live n : ℕ) (xs ts ls gs : List ℕ) (serial b
   place : well_formed box_limits m ≡ true → k ≡ lowest live (λ i. eqb (get_or xs i 0) serial)
   place well = placed_at (plan_for row) next live c well serial k sized at-k
 
-  pub step_gone : n ≤ k → r ≡ settles (Refused 21) next live → Tried (plan_for row) next live (cells xs ts ls gs) (step serial branch) r (cells xs ts ls gs)
+  pub step_gone : live ≤ k → Tried (plan_for row) next live (cells xs ts ls gs) (step serial branch) (settles (Refused 21) next live) (cells xs ts ls gs)
   unfolding answer_to step_by machine_from
-  step_gone l er =
-      tried_same (plan_for row) next live c (step serial branch) (Refused 21) r er (λ well.
-      sym (ap (step_by box_limits m serial branch) (found_none (plan_for row).identifiers live c serial k (place well) (omega (arith, en))) ∙ settled_refused _ _ _ 21 refl))
+  step_gone l =
+      tried_same (plan_for row) next live c (step serial branch) (Refused 21) _ refl (λ well.
+      sym (ap (step_by box_limits m serial branch) (found_none (plan_for row).identifiers live c serial k (place well) (omega arith)) ∙ settled_refused _ _ _ 21 refl))
 
-  pub step_live : (d : Cells) → k < n → SteppedAt (plan_for row) next live (cells xs ts ls gs) k branch r d → Tried (plan_for row) next live (cells xs ts ls gs) (step serial branch) r d
+  pub step_live : (r : Settled) (d : Cells) → k < live → SteppedAt (plan_for row) next live (cells xs ts ls gs) k branch r d → Tried (plan_for row) next live (cells xs ts ls gs) (step serial branch) r d
   unfolding answer_to machine_from unless_step
-  step_live d l w = record {
+  step_live r d l w = record {
     means = λ well.
         w.means well
-        ∙ sym (ap₂ (λ (s : ℕ) p. step_by box_limits m s branch p) (sym (found_serial (plan_for row).identifiers live c serial k (place well) (omega (arith, en))))
-        (found_some (plan_for row).identifiers live c serial k (place well) (omega (arith, en))));
+        ∙ sym (ap₂ (λ (s : ℕ) p. step_by box_limits m s branch p) (sym (found_serial (plan_for row).identifiers live c serial k (place well) (omega arith)))
+        (found_some (plan_for row).identifiers live c serial k (place well) (omega arith)));
     same = w.same;
     others = Prim.tt;
   }
-
--- The place is one of the array's.
-pub step_place : (live n : ℕ) (xs : List ℕ) (serial k : ℕ) → n ≡ live → length xs ≡ 128 → Located xs 0 live serial k → k < n → (k < live) × (live ≤ 128)
-step_place live n xs serial k en sized at-k l = let q = at-k.there (omega (arith, en, l)) in (omega (arith, en, l), omega (arith, q, sized))
 
 pub some_live : (k live : ℕ) → k < live → 1 ≤ live
 some_live k live h = omega arith

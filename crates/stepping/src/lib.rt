@@ -6,11 +6,12 @@ ghost use Rattle.planrow.specs.Lookup.{plan_for};
 ghost use Rattle.machine.specs.Machine.{step};
 ghost use Rattle.population.specs.Arrays.{cells};
 ghost use Rattle.population.specs.Lent.{Tried};
+ghost use Rattle.population.specs.Refusals.{settled_or};
 ghost use Rattle.stepping.specs.Stepping.{SteppedAt};
 
 use machine::Answer;
 use planrow::WORDS;
-use population::Settled;
+use population::{Child, Children, Refusal, Settled};
 
 // The step of the process at place k. A row of more than 32 identifiers means a bad state, whose tags have no places.
 fn step_at<'a>(
@@ -23,35 +24,39 @@ fn step_at<'a>(
     templates: &'a mut [u32; 128],
     labels: &'a mut [u32; 128],
     tags: &'a mut [u32; 4096],
-) -> Settled
+) -> Result<Settled, Refusal>
     requires { (k < live) × (live ≤ 128) }
     ensures { let plan = plan_for row.now in
         let c = cells serials.old templates.old labels.old tags.old in
         let d = cells serials.new templates.new labels.new tags.new in
-        SteppedAt plan next live c k branch result d }
+        SteppedAt plan next live c k branch (settled_or next live result) d }
 {
     let m = planrow::identifier_count(row);
     if 32 < m {
-        return population::settle(Answer::Refused(population::BAD_STATE), next, live);
+        return Err(Refusal::BadState);
     }
     let t = planrow::template_at(row, templates[k]);
-    let form = t.form;
-    let heirs = admission::children_of(form, branch);
-    let count = heirs.count;
+    let heirs = admission::children_of(t.form, branch);
     let y = heirs.first as u32;
     let z = heirs.second as u32;
-    let first = planrow::template_at(row, y);
-    let second = planrow::template_at(row, z);
-    let number = admission::refusal(m, next, live, labels[k], t, branch, count, first, second);
-    if number != 0 {
-        return population::settle(Answer::Refused(number), next, live);
-    }
+    let children = Children {
+        count: heirs.count,
+        first: Child {
+            number: y,
+            template: planrow::template_at(row, y),
+        },
+        second: Child {
+            number: z,
+            template: planrow::template_at(row, z),
+        },
+    };
+    admission::admit(m, next, live, labels[k], t, branch, children)?;
     let last = live - 1;
     spawning::advance(
-        m, next, k as u32, last, count, y, first, z, second, serials, templates, labels, tags,
+        m, next, k as u32, last, children, serials, templates, labels, tags,
     );
-    let born = count as u32;
-    population::settle(Answer::Done, next + born, last + born)
+    let born = heirs.count as u32;
+    Ok(population::settle(Answer::Done, next + born, last + born))
 }
 
 // Document 01, Step: 21, then 22 to 25 for the process found.
@@ -65,16 +70,12 @@ pub fn attempt<'a>(
     tags: &'a mut [u32; 4096],
     serial: u32,
     branch: u32,
-) -> Settled
+) -> Result<Settled, Refusal>
     ensures { let plan = plan_for row.now in
         let c = cells serials.old templates.old labels.old tags.old in
         let d = cells serials.new templates.new labels.new tags.new in
-        Tried plan next live c (step serial branch) result d }
+        Tried plan next live c (step serial branch) (settled_or next live result) d }
 {
-    let n = arrays::index(live);
-    let k = arrays::place_of(serials, 0, live, serial);
-    if n <= k {
-        return population::settle(Answer::Refused(population::NOT_LIVE), next, live);
-    }
+    let k = population::find(serials, live, serial)?;
     step_at(row, next, live, k, branch, serials, templates, labels, tags)
 }

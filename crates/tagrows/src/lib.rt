@@ -14,25 +14,14 @@ pub fn row_start(place: u32, m: u32) -> usize
     (place as usize) * (m as usize)
 }
 
-// The 32 tags from a place on.
-fn copy_tags(tags: &[u32; 4096], from: usize) -> [u32; 32]
-    requires { from + 32 ≤ 4096 }
-    ensures { result ≡ tabulate 32 (λ i. get_or tags.now (from + i) 0) }
-{
-    let mut row = [0u32; 32];
-    let mut i: usize = 0;
-    while i < 32 {
-        row[i] = tags[from + i];
-        i += 1;
-    }
-    row
-}
-
-// The same for any place: the last 32 where fewer stand there.
+// The 32 tags from a place on, the last 32 where fewer stand there.
 pub fn copy_row(tags: &[u32; 4096], from: usize) -> [u32; 32]
     ensures { result ≡ tabulate 32 (λ i. get_or tags.now (min from 4064 + i) 0) }
 {
-    copy_tags(tags, blocks::least(from, 4064))
+    let at = from.min(4064);
+    let mut row = [0u32; 32];
+    row.copy_from_slice(&tags[at..at + 32]);
+    row
 }
 
 // Document 01: "its parent's tags, and its own serial as tag of each identifier Y creates".
@@ -47,21 +36,12 @@ fn child_tag(serial: u32, creates: u32, parent: u32, i: u32) -> u32
     }
 }
 
-// Writes the 32 tags of a child from a place on.
-fn write_tags(tags: &mut [u32], from: usize, parent: [u32; 32], creates: u32, serial: u32)
-    requires { from + 32 ≤ length tags.old }
-    ensures { (j : ℕ) → get_or tags.new j 0 ≡ written tags.old from 32 (λ i. child_tag serial creates (get_or parent i 0) i) j }
-{
-    let mut i: usize = 0;
-    while i < 32 {
-        tags[from + i] = child_tag(serial, creates, parent[i], i as u32);
-        i += 1;
-    }
-}
-
-// The same for any place: at the last 32 where fewer are there.
+// Writes the 32 tags of a child from a place on, the last 32 where fewer are there.
 pub fn write_row(tags: &mut [u32; 4096], from: usize, parent: [u32; 32], creates: u32, serial: u32)
     ensures { (j : ℕ) → get_or tags.new j 0 ≡ written tags.old (min from 4064) 32 (λ i. child_tag serial creates (get_or parent i 0) i) j }
 {
-    write_tags(tags, blocks::least(from, 4064), parent, creates, serial);
+    let first = from.min(4064);
+    for i in 0..32 {
+        tags[first + i] = child_tag(serial, creates, parent[i], i as u32);
+    }
 }

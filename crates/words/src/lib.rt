@@ -7,6 +7,7 @@ ghost use Rattle.words.specs.Words.{part_words};
 
 use rules::{Part, Text, Verdict};
 
+// Functions, and no impl of From: texts, verdicts and parts are types of crate rules, and so are numbers no types of this one.
 fn text_number(text: Text) -> u32
     ensures { result ≡ text_number text }
 {
@@ -29,10 +30,7 @@ pub fn verdict_words(verdict: Verdict) -> [u32; 5]
             b.second as u32,
             b.identifier as u32,
         ],
-        Verdict::Unread(f) => {
-            let text = f.text;
-            [2, text_number(text), f.number as u32, f.line, 0]
-        }
+        Verdict::Unread(f) => [2, text_number(f.text), f.number as u32, f.line, 0],
     }
 }
 
@@ -40,6 +38,5 @@ pub fn verdict_words(verdict: Verdict) -> [u32; 5]
 pub fn part_words(part: Part) -> [usize; 3]
     ensures { result ≡ part_words part }
 {
-    let text = part.text;
-    [arrays::index(text_number(text)), part.start, part.end]
+    [text_number(part.text) as usize, part.start, part.end]
 }

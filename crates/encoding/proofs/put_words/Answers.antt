@@ -1,18 +1,15 @@
 -- The words are stored up to the place that the loop has reached.
-use Prim.Native.Nat.{◌-◌}
 use mathlib.Core.Path.{◌≡◌, refl}
 use native.Mathlib.Omega.{arith}
-use lib.ListN.{length-set}
-use borrow.Author.Rules.{rules}
 use Rattle.lists.proofs.Written.{written_none, written_more}
 use Rattle.planrow.specs.Row.{width}
 use Rattle.encoding.proofs.put_words.Goals as goal
 
 pub loop-k-init : goal.loop-k-init
-loop-k-init c = (search rules, refl, written_none _ _ _)
+loop-k-init c = written_none _ _ _
 
 pub loop-k-preserved : goal.loop-k-preserved
-loop-k-preserved c = let l = c.loop-k in (omega arith, simp length-set l.invariant.1, written_more _ l.row _ l.k _ _ (omega arith) refl l.invariant.2)
+loop-k-preserved c = let l = c.loop-k in written_more _ l.row _ l.k _ _ (omega arith) refl l.invariant
 
 pub returns : goal.returns
-returns c = let e : c.loop-k.k ≡ width = omega arith in rw e at c.loop-k.invariant.2
+returns c = let e : c.loop-k.k ≡ width = omega arith in rw e at c.loop-k.invariant

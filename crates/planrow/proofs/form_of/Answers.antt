@@ -2,14 +2,14 @@
 use Rattle.planrow.proofs.Reading.{form_end, form_go, form-either, form_both}
 use Rattle.planrow.proofs.form_of.Goals as goal
 
-pub returns-then-number-eq0 : goal.returns-then-number-eq0
-returns-then-number-eq0 c = search form_end
+pub returns-in-0 : goal.returns-in-0
+returns-in-0 c = search form_end
 
-pub returns-then-number-eq1 : goal.returns-then-number-eq1
-returns-then-number-eq1 c = search form_go
+pub returns-in-1 : goal.returns-in-1
+returns-in-1 c = search form_go
 
-pub returns-then-number-eq2 : goal.returns-then-number-eq2
-returns-then-number-eq2 c = search form-either
+pub returns-in-2 : goal.returns-in-2
+returns-in-2 c = search form-either
 
-pub returns : goal.returns
-returns c = search form_both
+pub returns-in_default : goal.returns-in_default
+returns-in_default c = search form_both

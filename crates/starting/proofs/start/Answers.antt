@@ -6,7 +6,7 @@ use Rattle.starting.proofs.start.Goals as goal
 
 pub returns-then-not-is_accepted : goal.returns-then-not-is_accepted
 returns-then-not-is_accepted c = started_not _ _ _ c.judge-verdict.ensures _ c.is_accepted.ensures (ap not c.if-not-is_accepted.true)
-    _ c.blank_state-blank.ensures
+    _ c.blank_state-state.ensures
 
 pub returns : goal.returns
 returns c = started_so _ _ _ c.judge-verdict.ensures _ c.is_accepted.ensures

@@ -1,13 +1,15 @@
 -- The process is looked for, and its step is the machine's.
-use borrow.Author.Rules.{rules}
-use Rattle.stepping.proofs.Steps.{step_gone, step_live, step_place}
+use native.Mathlib.Omega.{arith}
+use Rattle.std.proofs.lemmas.Result.{err_from_is_err_and}
+use Rattle.stepping.proofs.Steps.{step_gone, step_live}
 use Rattle.stepping.proofs.attempt.Goals as goal
 
-pub returns-then-n-k : goal.returns-then-n-k
-returns-then-n-k c = search step_gone
+pub returns-in_err-k : goal.returns-in_err-k
+returns-in_err-k c = let p = err_from_is_err_and c.from_residual.result c.from_residual.ensures.1 in
+    rw (p.1, p.2, c.in_err-k.ensures.1) (step_gone _ _ _ _ _ _ _ _ _ c.told-serials _ c.in_err-k.ensures.0 (omega arith))
 
 pub step_at-requires : goal.step_at-requires
-step_at-requires c = step_place _ _ c.args.serials.now _ _ c.index-n.ensures (search rules) c.place_of-k.ensures c.if-n-k.false
+step_at-requires c = (c.in_ok-k.ensures.1, c.in_ok-k.ensures.2)
 
 pub returns : goal.returns
-returns c = search step_live
+returns c = step_live _ _ _ _ _ _ _ _ _ c.told-serials _ c.in_ok-k.ensures.0 _ _ c.in_ok-k.ensures.1 c.step_at.ensures

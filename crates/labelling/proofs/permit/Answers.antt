@@ -1,6 +1,6 @@
 -- The refusals in document order, each by its law.
 use Rattle.labelling.proofs.Labels.{refused_27, refused_28, refused_29, refused_none}
-use Rattle.labelling.proofs.refusal.Goals as goal
+use Rattle.labelling.proofs.permit.Goals as goal
 
 pub returns-then-m-i : goal.returns-then-m-i
 returns-then-m-i c = search refused_27

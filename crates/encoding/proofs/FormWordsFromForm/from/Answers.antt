@@ -1,7 +1,7 @@
 -- By the form.
 use mathlib.Core.Path.{refl}
 use Rattle.planrow.specs.Row.{form_number, first_of, second_of}
-use Rattle.encoding.proofs.form_words.Goals as goal
+use Rattle.encoding.proofs.FormWordsFromForm.from.Goals as goal
 
 pub returns-in-End : goal.returns-in-End
 unfolding form_number first_of second_of

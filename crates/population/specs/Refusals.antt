@@ -1,0 +1,46 @@
+-- Document 01's numbers of the refusals of step, send, raise and lower, the answers that results stand for, and where a
+-- process is found.
+-- Not to be believed: the contract of `dispatch::run_call` names the machine alone.
+use Rattle.std.specs.Prelude.{ℕ, ◌≡◌, ◌≤◌, ◌<◌, List, Result, Ok, Err}
+use Rattle.machine.specs.declared.Answer.{Answer}
+use Rattle.machine.specs.declared.Answer.TheVariants.{Done, Refused}
+use Rattle.arrays.specs.Places.{Located}
+use Rattle.population.specs.declared.Refusal.{Refusal}
+use Rattle.population.specs.declared.Refusal.TheVariants.{BadState, NotLive, NoBranch, NoRoom, NoSerial, BadLabel, ToItself, NoIdentifier, NotAtRisk, NotAllowed}
+use Rattle.population.specs.declared.Settled.{Settled}
+use Rattle.population.specs.Lent.{settles}
+
+abbrev pub number_of : Refusal → ℕ
+number_of BadState = 20
+number_of NotLive = 21
+number_of NoBranch = 22
+number_of NoRoom = 23
+number_of NoSerial = 24
+number_of BadLabel = 25
+number_of ToItself = 26
+number_of NoIdentifier = 27
+number_of NotAtRisk = 28
+number_of NotAllowed = 29
+
+abbrev pub refused : Refusal → Answer
+refused refusal = Refused (number_of refusal)
+
+-- The answer of what is done where it is not refused,
+abbrev pub done_or : {A : Type 0} → Result A Refusal → Answer
+done_or (Ok v) = Done
+done_or (Err refusal) = refused refusal
+
+-- of what has an answer of its own then,
+abbrev pub answer_or : Result Answer Refusal → Answer
+answer_or (Ok answer) = answer
+answer_or (Err refusal) = refused refusal
+
+-- and what a call leaves: a refused one what it met.
+abbrev pub settled_or : ℕ → ℕ → Result Settled Refusal → Settled
+settled_or next live (Ok settled) = settled
+settled_or next live (Err refusal) = settles (refused refusal) next live
+
+-- The place of a serial among the live ones, if they rise, or that none of them has it.
+abbrev pub Found : List ℕ → ℕ → ℕ → Result ℕ Refusal → Type 0
+Found serials live s (Ok k) = Located serials 0 live s k × (k < live) × (live ≤ 128)
+Found serials live s (Err refusal) = Located serials 0 live s live × (refusal ≡ NotLive)
