@@ -97,7 +97,7 @@ fn print_line<W: Write>(out: &mut W, state: &State, place: u32) -> io::Result<()
     requires width { state.now.plan.identifiers ≤ 32 }
     ensures { OnOk result (Appends (W.contents out.old) (W.contents out.new) (process_line state.now place)) }
 {
-    let k = arrays::index(place);
+    let k = place as usize;
     print_names(out, state.serials[k], state.templates[k], state.labels[k])?;
     print_row(out, &state.tags, place, state.plan.identifiers)?;
     writeln!(out)?;

@@ -4,7 +4,7 @@
 use plan::{Plan, Policy};
 use std::io;
 use std::io::Write;
-use text::Reading;
+use text::Refused;
 
 // The counts, and one number for all that was read.
 fn print_read<W: Write>(out: &mut W, plan: Plan, policy: Policy) -> io::Result<()> {
@@ -16,23 +16,27 @@ fn print_read<W: Write>(out: &mut W, plan: Plan, policy: Policy) -> io::Result<(
     )
 }
 
+// Which text is refused, with number and line.
+fn print_refused<W: Write>(out: &mut W, text: &str, refused: Refused) -> io::Result<()> {
+    let number = u8::from(refused.refusal);
+    writeln!(out, "{text} {number} {}", refused.line)
+}
+
 fn print_policy<W: Write>(out: &mut W, plan: Plan, policy_text: &[u8]) -> io::Result<()> {
     let n = plan.count;
     if 64 < n {
         return Ok(());
     }
-    let read = policies::read_policy(n as u8, policy_text);
-    match read.answer {
-        Reading::Complete => print_read(out, plan, read.policy),
-        Reading::Refused(r) => writeln!(out, "policy {} {}", r.number, r.line),
+    match policies::read_policy(n as u8, policy_text) {
+        Ok(policy) => print_read(out, plan, policy),
+        Err(refused) => print_refused(out, "policy", refused),
     }
 }
 
 fn print_case<W: Write>(out: &mut W, plan_text: &[u8], policy_text: &[u8]) -> io::Result<()> {
-    let read = reader::read_plan(plan_text);
-    match read.answer {
-        Reading::Complete => print_policy(out, read.plan, policy_text),
-        Reading::Refused(r) => writeln!(out, "plan {} {}", r.number, r.line),
+    match reader::read_plan(plan_text) {
+        Ok(plan) => print_policy(out, plan, policy_text),
+        Err(refused) => print_refused(out, "plan", refused),
     }
 }
 
