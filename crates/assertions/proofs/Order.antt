@@ -3,12 +3,10 @@
 use Prim.Native.Nat.{ℕ, ◌+◌, ◌≤◌, ◌<◌, min}
 use mathlib.Core.Path.{◌≡◌, refl, sym, ap, subst, ◌∙◌, fun_ext}
 use mathlib.Core.Bool.{Bool, true, false, not, cond, ◌&&◌, ◌||◌, and_assoc, or-false}
-use mathlib.Core.List.{List, map}
 use native.Mathlib.Omega.{arith}
-use mir.Syntax.{w8}
-use mir.Val.{Fits}
 use lib.Bits.{bit_or}
-use lib.ListN.{length}
+use lib.ListN.{length, get_or}
+use Rattle.std.specs.Prelude.{Result, Ok, Err, IsErrAnd}
 use Rattle.lists.specs.Numbers.{every, any}
 use Rattle.mask.specs.Mask.{has}
 use Rattle.mask.proofs.Items.{has_or}
@@ -20,13 +18,15 @@ use Rattle.plan.specs.declared.Policy.{Policy}
 use Rattle.plan.specs.Plan.{blank_assertion, at, assertion_at}
 use Rattle.plan.proofs.Places.{assertion_past}
 use Rattle.route.specs.Search.{shares_tag, splits_tag}
-use Rattle.layout.specs.Layout.{Laid}
+use Rattle.route.specs.declared.Layout.{Layout}
+use Rattle.layout.specs.Layout.{layout_of}
 use Rattle.layout.proofs.Answers.{shares_laid, splits_laid}
+use Rattle.rules.specs.declared.Breach.{Breach}
 use Rattle.rules.specs.declared.Verdict.{Verdict}
 use Rattle.rules.specs.declared.Verdict.TheVariants.{Accepted}
 use Rattle.rules.specs.Judge.{broken, first_below, serves, check_prot, check_assertion, check_assertions, wearable}
-use Rattle.rules.specs.Broken.{accepted}
-use Rattle.rules.proofs.Walk.{broken_accepted, accepted_is, below_none, below_more, below_leaves, below_alike}
+use Rattle.rules.specs.Broken.{answered}
+use Rattle.rules.proofs.Walk.{broken_accepted, below_each, below_none, below_more, below_breaks, below_broken, below_end, below_alike}
 use Rattle.secrecy.specs.Lent.{keeps, wearables, joined, serves_by}
 use Rattle.prot.specs.declared.Labels.{Labels}
 use Rattle.prot.specs.Lent.{parted, prot_by}
@@ -49,16 +49,16 @@ wearables_are plan X t = go (at plan X).risk
     go true = has_or t (at plan X).lab (at plan X).pos
     go false = sym (or-false (has t (at plan X).lab))
 
-module _ (plan : Plan) (place : ℕ) (a : Assertion) (first second masks : List ℕ) (forks : ℕ) (laid : Laid plan first second masks forks)
+module _ (plan : Plan) (place : ℕ) (a : Assertion) (l : Layout) (laid : l ≡ layout_of plan)
     (source sink : Template) (e : source ≡ at plan a.source) (h : sink ≡ at plan a.sink) where
   abbrev J : ℕ → Bool
-  J = joined first second masks forks a
+  J = joined l a
 
   joined_is : (t : ℕ) → J t ≡ shares_tag plan t a.source a.sink a.anc
   unfolding joined
   joined_is t = shares_laid plan _ laid t a.source a.sink a.anc
 
-  parted_is : (t : ℕ) → parted first second masks forks a t ≡ splits_tag plan t a.source a.sink a.anc
+  parted_is : (t : ℕ) → parted l a t ≡ splits_tag plan t a.source a.sink a.anc
   unfolding parted
   parted_is t = splits_laid plan _ laid t a.source a.sink a.anc
 
@@ -73,7 +73,7 @@ module _ (plan : Plan) (place : ℕ) (a : Assertion) (first second masks : List 
         ∙ and_assoc (has t (at plan a.source).lab) (every plan.count (keeps plan a.declass t))
         (not (wearable plan a.sink t) || not (shares_tag plan t a.source a.sink a.anc))
 
-    pub secrecy_kind : (b : Bool) → b ≡ any plan.identifiers (serves_by kept risked (joined first second masks forks a))
+    pub secrecy_kind : (b : Bool) → b ≡ any plan.identifiers (serves_by kept risked (joined l a))
         → (v : Verdict) → v ≡ cond b Accepted (broken 17 place a.sink 255) → v ≡ check_assertion plan place a a.kind
     unfolding check_assertion
     secrecy_kind b q v r =
@@ -84,7 +84,7 @@ module _ (plan : Plan) (place : ℕ) (a : Assertion) (first second masks : List 
   labels S K = record { limit = plan.identifiers; source = S.lab; sink = K.lab }
 
   pub prot_kind : a.kind ≡ Prot → (v : Verdict)
-      → v ≡ first_below plan.identifiers (prot_by (record { limit = plan.identifiers; source = source.lab; sink = sink.lab }) place a (parted first second masks forks a))
+      → v ≡ first_below plan.identifiers (prot_by (record { limit = plan.identifiers; source = source.lab; sink = sink.lab }) place a (parted l a))
       → v ≡ check_assertion plan place a a.kind
   unfolding check_assertion check_prot prot_by
   prot_kind k v q =
@@ -92,19 +92,30 @@ module _ (plan : Plan) (place : ℕ) (a : Assertion) (first second masks : List 
 
 -- ---- all assertions
 
--- What the loop keeps: the first i are accepted. Past the 32 places stands the blank assertion, and whether it is accepted
--- does not depend on its place.
-pub record AllSoFar (plan : Plan) (policy : Policy) (k i : ℕ) : Type 0 where
-  pub whole : k ≡ min policy.count 33
-  pub below : i ≤ k
-  pub so_far : first_below i (λ i. check_assertion plan i (assertion_at policy i) (assertion_at policy i).kind) ≡ Accepted
-
 module _ (plan : Plan) (policy : Policy) where
   abbrev each : ℕ → Verdict
   each i = check_assertion plan i (assertion_at policy i) (assertion_at policy i).kind
 
-  pub all_start : (k : ℕ) → k ≡ min policy.count 33 → AllSoFar plan policy k 0
-  all_start k e = record { whole = e; below = omega arith; so_far = below_none each }
+  -- What the loop keeps: the first i are accepted. That the row has its length is known once an assertion was read.
+  pub record AllSoFar (i : ℕ) : Type 0 where
+    pub so_far : first_below i each ≡ Accepted
+    pub row : 0 < i → length policy.assertions ≡ 32
+
+  pub all_start : AllSoFar 0
+  all_start = record { so_far = below_none each; row = λ h. omega arith }
+
+  module _ (i : ℕ) (s : AllSoFar i) (a : Assertion) (g : a ≡ get_or policy.assertions i blank_assertion) (r : Result (Unit {0}) Breach)
+      (e : answered r ≡ check_assertion plan i a a.kind) where
+    here : answered r ≡ each i
+    unfolding assertion_at
+    here = e ∙ ap (λ (x : Assertion). check_assertion plan i x x.kind) g
+
+    pub all_more : length policy.assertions ≡ 32 → (u : Unit {0}) → r ≡ Ok u → AllSoFar (i + 1)
+    all_more full u q = record { so_far = below_more i each s.so_far (sym here ∙ ap answered q); row = λ h. full }
+
+    pub all_stop : i < policy.count → (d : Breach) → r ≡ Err d → (t : Result (Unit {0}) Breach) → IsErrAnd t (λ x. x ≡ d) → answered t ≡ check_assertions plan policy
+    unfolding check_assertions
+    all_stop l d q t k = below_breaks policy.count each i l s.so_far r d here q t k
 
   blank_alike : (i j : ℕ) → check_assertion plan i blank_assertion Secrecy ≡ Accepted → check_assertion plan j blank_assertion Secrecy ≡ Accepted
   unfolding check_assertion
@@ -121,23 +132,25 @@ module _ (plan : Plan) (policy : Policy) where
     alike : each 32 ≡ Accepted → (i : ℕ) → 32 ≤ i → each i ≡ Accepted
     alike e i h = blank_at i h ∙ blank_alike 32 i (sym (blank_at 32 (omega arith)) ∙ e)
 
-    pub all_end : (k i : ℕ) → AllSoFar plan policy k i → k ≤ i → Accepted ≡ check_assertions plan policy
+  module _ (i n : ℕ) (s : AllSoFar i) (q : n ≡ min policy.count 32) (l : i ≤ n) (h : n ≤ i) where
+    pub all_end : policy.count ≤ 32 → Accepted ≡ check_assertions plan policy
     unfolding check_assertions
-    all_end k i s h =
-        let q : i ≡ min policy.count 33 = omega (arith, s.whole, s.below) in
-        sym (below_alike policy.count 32 each alike (subst (λ (n : ℕ). first_below n each ≡ Accepted) q s.so_far))
+    all_end g = below_end policy.count each i (omega arith) (omega arith) s.so_far
 
-  module _ (k i : ℕ) (s : AllSoFar plan policy k i) where
-    pub all_room : i < k → Fits w8 (i + 1)
-    all_room h = let l = s.whole in omega arith
+    -- Past the places the first is asked.
+    pub all_blank : 32 < policy.count → (b : Assertion) → b ≡ blank_assertion → (r : Result (Unit {0}) Breach) → answered r ≡ check_assertion plan 32 b b.kind
+        → answered r ≡ check_assertions plan policy
+    unfolding check_assertions
+    all_blank g b w r e = whole r (e ∙ ap (λ (a : Assertion). check_assertion plan 32 a a.kind) w ∙ sym (blank_at full 32 (omega arith)))
+      where
+        full : length policy.assertions ≡ 32
+        full = s.row (omega arith)
 
-    module _ (l : i < k) (a : Assertion) (h : a ≡ assertion_at policy i) (v : Verdict) (e : v ≡ check_assertion plan i a a.kind) (b : Bool) (q : b ≡ accepted v) where
-      there : v ≡ each i
-      there = e ∙ ap (λ (x : Assertion). check_assertion plan i x x.kind) h
+        before : first_below 32 each ≡ Accepted
+        before = let k : i ≡ 32 = omega arith in subst (λ (m : ℕ). first_below m each ≡ Accepted) k s.so_far
 
-      pub all_more : b ≡ true → AllSoFar plan policy k (i + 1)
-      all_more f = record { whole = s.whole; below = omega arith; so_far = below_more i each s.so_far (sym there ∙ accepted_is v (sym q ∙ f)) }
-
-      pub all_stop : b ≡ false → v ≡ check_assertions plan policy
-      unfolding check_assertions
-      all_stop f = let w = s.whole in below_leaves policy.count each i v (omega arith) s.so_far there b q f
+        whole : (r : Result (Unit {0}) Breach) → answered r ≡ each 32 → answered r ≡ first_below policy.count each
+        whole (Ok u) e =
+            let k : min policy.count 33 ≡ 33 = omega arith in
+            sym (below_alike policy.count 32 each (alike full) (subst (λ (m : ℕ). first_below m each ≡ Accepted) (sym k) (below_more 32 each before (sym e))))
+        whole (Err d) e = sym (below_broken policy.count each 32 d g (below_each 32 each before) (sym e))

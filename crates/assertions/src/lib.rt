@@ -3,22 +3,24 @@
 #![tactic(auto)]
 
 ghost use Rattle.std.specs.Prelude.{◌≡◌, cond};
-ghost use Rattle.layout.specs.Layout.{Laid};
+ghost use Rattle.layout.specs.Layout.{layout_of};
 ghost use Rattle.rules.specs.declared.Verdict.TheVariants.{Accepted};
 ghost use Rattle.rules.specs.Judge.{broken, check_assertion, check_assertions};
+ghost use Rattle.rules.specs.Broken.{answered};
 
 use plan::{Assertion, Kind, Plan, Policy};
 use prot::Labels;
-use rules::{Breach, Verdict};
+use route::Layout;
+use rules::Breach;
 
 // 17 of a secrecy, by whether some identifier serves.
-fn verdict_17(served: bool, place: u8, sink: u8) -> Verdict
-    ensures { result ≡ cond served Accepted (broken 17 place sink 255) }
+fn check_17(served: bool, place: u8, sink: u8) -> Result<(), Breach>
+    ensures { answered result ≡ cond served Accepted (broken 17 place sink 255) }
 {
     if served {
-        return Verdict::Accepted;
+        return Ok(());
     }
-    Verdict::Broken(Breach {
+    Err(Breach {
         rule: 17,
         first: place,
         second: sink,
@@ -27,34 +29,18 @@ fn verdict_17(served: bool, place: u8, sink: u8) -> Verdict
 }
 
 // The assertion at a place, by its kind.
-fn check_assertion<'a>(
-    first: &'a [u8; 64],
-    second: &'a [u8; 64],
-    creates: &'a [u32; 64],
-    forks: u64,
-    plan: Plan,
-    place: u8,
-    a: Assertion,
-) -> Verdict
-    requires { Laid plan first.now second.now creates.now forks }
-    ensures { result ≡ check_assertion plan place a a.kind }
+fn check_assertion(layout: &Layout, plan: &Plan, place: u8, a: Assertion) -> Result<(), Breach>
+    requires { layout.now ≡ layout_of plan.now }
+    ensures { answered result ≡ check_assertion plan.now place a a.kind }
 {
-    let source = plan::template_at(plan, a.source);
-    let sink = plan::template_at(plan, a.sink);
-    let kind = a.kind;
-    match kind {
+    let source = plan.template(a.source);
+    let sink = plan.template(a.sink);
+    match a.kind {
         Kind::Secrecy => {
-            let served = secrecy::some_serves(
-                first,
-                second,
-                creates,
-                forks,
-                secrecy::find_kept(plan, source.lab, a.declass),
-                secrecy::wearables(sink),
-                plan.identifiers,
-                a,
-            );
-            verdict_17(served, place, a.sink)
+            let kept = secrecy::find_kept(plan, source.lab, a.declass);
+            let risked = secrecy::wearables(sink);
+            let served = secrecy::some_serves(layout, kept, risked, plan.identifiers, a);
+            check_17(served, place, a.sink)
         }
         Kind::Prot => {
             let labels = Labels {
@@ -62,29 +48,21 @@ fn check_assertion<'a>(
                 source: source.lab,
                 sink: sink.lab,
             };
-            prot::check_prot(first, second, creates, forks, labels, place, a)
+            prot::check_prot(layout, labels, place, a)
         }
     }
 }
 
 // All assertions in order, over one layout. Past the 32 places all are blank, and alike: the first of them is enough.
-pub fn check_assertions(plan: Plan, policy: Policy) -> Verdict
-    ensures { result ≡ check_assertions plan policy }
+pub fn check_assertions(plan: &Plan, policy: &Policy) -> Result<(), Breach>
+    ensures { answered result ≡ check_assertions plan.now policy.now }
 {
-    let laid = layout::lay_out(plan);
-    let first = laid.first;
-    let second = laid.second;
-    let creates = laid.creates;
-    let forks = laid.forks;
-    let k = plan::capped(policy.count, 33);
-    let mut i: u8 = 0;
-    while i < k {
-        let a = plan::assertion_at(policy, i as usize);
-        let v = check_assertion(&first, &second, &creates, forks, plan, i, a);
-        if !rules::is_accepted(v) {
-            return v;
-        }
-        i += 1;
+    let layout = layout::lay_out(plan);
+    for i in 0..plan::capped(policy.count, 32) {
+        check_assertion(&layout, plan, i, policy.assertions[i as usize])?;
     }
-    Verdict::Accepted
+    if policy.count <= 32 {
+        return Ok(());
+    }
+    check_assertion(&layout, plan, 32, Assertion::default())
 }

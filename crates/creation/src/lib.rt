@@ -2,58 +2,54 @@
 // met as the definitions meet it: a blank template and an empty mask create nothing.
 #![tactic(auto)]
 
-ghost use Rattle.std.specs.Prelude.{◌≡◌, ltb};
+ghost use Rattle.std.specs.Prelude.{◌≡◌, ◌<◌, ltb, length};
 ghost use Rattle.mask.specs.Sets.{Marks};
 ghost use Rattle.rules.specs.Judge.{next_creator, check11};
+ghost use Rattle.rules.specs.Broken.{answered};
 ghost use Rattle.creation.specs.Creator.{creator_from};
 
+use mask::Mask;
 use plan::Plan;
-use rules::{Breach, Verdict};
+use rules::Breach;
 
-// The identifiers that two templates create: each is in what an earlier template created.
-fn created_twice(plan: Plan) -> u32
-    ensures { Marks result (λ t. ltb (next_creator plan t) plan.count) }
+// The identifiers that two templates create: each is in what an earlier template created. That the row has its length is known
+// once a template was read.
+fn created_twice(plan: &Plan) -> u32
+    ensures marks { Marks result (λ t. ltb (next_creator plan.now t) plan.now.count) }
+    ensures row { 0 < plan.now.count → length plan.now.templates ≡ 64 }
 {
-    let n = plan::capped(plan.count, 64);
     let mut once: u32 = 0;
     let mut twice: u32 = 0;
-    let mut x: u8 = 0;
-    while x < n {
-        let template = plan.templates[x as usize];
-        twice = twice | (once & template.creates);
-        once = once | template.creates;
-        x += 1;
+    for x in 0..plan::capped(plan.count, 64) {
+        let creates = plan.templates[x as usize].creates;
+        twice |= once & creates;
+        once |= creates;
     }
     twice
 }
 
-// The lowest template from the given one on that creates t, and the number of templates where there is none.
-fn creator_from(plan: Plan, t: u32, from: u8) -> u8
-    ensures { result ≡ creator_from plan from t }
+// The lowest template from the given one on that creates t.
+fn creator_from(plan: &Plan, t: u32, from: u8) -> Option<u8>
+    ensures { result ≡ creator_from plan.now from t }
 {
-    let n = plan::capped(plan.count, 64);
-    let mut x = from;
-    while x < n {
-        let template = plan.templates[x as usize];
-        if mask::contains_u32(template.creates, t) {
-            return x;
+    for x in from..plan::capped(plan.count, 64) {
+        if plan.templates[x as usize].creates.contains(t) {
+            return Some(x);
         }
-        x += 1;
     }
-    n
+    None
 }
 
 // 11: the lowest identifier that is created twice, and its two lowest creators.
-pub fn check_11(plan: Plan) -> Verdict
-    ensures { result ≡ check11 plan }
+pub fn check_11(plan: &Plan) -> Result<(), Breach>
+    ensures { answered result ≡ check11 plan.now }
 {
-    let t = offenders::lowest_below(plan.identifiers, created_twice(plan));
-    if plan.identifiers <= t {
-        return Verdict::Accepted;
-    }
-    let x = creator_from(plan, t, 0);
-    let y = creator_from(plan, t, x + 1);
-    Verdict::Broken(Breach {
+    let Some(t) = offenders::lowest_below(plan.identifiers, created_twice(plan)) else {
+        return Ok(());
+    };
+    let x = creator_from(plan, t, 0).unwrap();
+    let y = creator_from(plan, t, x + 1).unwrap();
+    Err(Breach {
         rule: 11,
         first: x,
         second: y,

@@ -1,102 +1,88 @@
--- The edges from one template, by the code's answer for its successors; and the loop over the templates.
-use Prim.Native.Nat.{ℕ, zero, suc, ◌+◌, min, ◌≤◌, ◌<◌}
-use mathlib.Core.Path.{◌≡◌, refl, sym, ap, ap₂, subst, ◌∙◌}
-use mathlib.Core.Bool.{Bool, true, false}
-use mathlib.Core.List.{List, map}
+-- The edges from one template by its form; and the loop over the templates.
+use Prim.Native.Nat.{ℕ, ◌+◌, min, ◌≤◌, ◌<◌}
+use mathlib.Core.Path.{◌≡◌, sym, ap, subst, ◌∙◌}
+use mathlib.Core.Logic.{◌⊎◌, inl, inr}
 use native.Mathlib.Omega.{arith}
-use mir.Syntax.{w8}
-use mir.Val.{Fits}
-use lib.ListN.{length}
+use lib.ListN.{length, get_or}
+use Rattle.std.specs.Prelude.{Result, Ok, Err, IsErrAnd}
+use Rattle.lists.proofs.Tests.{lt_or_le}
+use Rattle.plan.specs.declared.Form.{Form}
+use Rattle.plan.specs.declared.Form.TheVariants.{End, Go, Either, Both}
 use Rattle.plan.specs.declared.Plan.{Plan}
 use Rattle.plan.specs.declared.Template.{Template}
-use Rattle.plan.specs.declared.Successors.{Successors}
 use Rattle.plan.specs.Plan.{blank, at, successors}
-use Rattle.plan.specs.Listed.{list_for, listed}
 use Rattle.plan.proofs.Places.{template_past}
+use Rattle.rules.specs.declared.Breach.{Breach}
 use Rattle.rules.specs.declared.Verdict.{Verdict}
 use Rattle.rules.specs.declared.Verdict.TheVariants.{Accepted}
 use Rattle.rules.specs.Judge.{or_else, first_below, first_in, check_edge, check_edges}
-use Rattle.rules.specs.Broken.{accepted}
-use Rattle.rules.proofs.Walk.{accepted_is, below_none, below_more, below_leaves, below_past}
-use Rattle.edges.specs.Wide.{first_of_two, edges_of}
-use Rattle.edges.proofs.Offenders.{or_last, edge-checked}
+use Rattle.rules.specs.Broken.{answered}
+use Rattle.rules.proofs.Walk.{or_last, or_stops, or_goes, below_none, below_more, below_breaks, below_past}
 
--- None, one or two, as the code meets them: x and y are the answers for the first and for the second.
-module _ (n : ℕ) (v w : Verdict) where
-  pub of_none : n ≡ 0 → Accepted ≡ first_of_two n v w
-  unfolding first_of_two
-  of_none h = sym (ap (λ (k : ℕ). first_of_two k v w) h)
+-- None, one or two: the first's answer is r, the second's s.
+module _ (f : ℕ → Verdict) (form : Form) where
+  pub of_none : form ≡ End → Accepted ≡ first_in (successors form) f
+  unfolding successors first_in
+  of_none h = sym (ap (λ (k : Form). first_in (successors k) f) h)
 
-  module _ (x : Verdict) (e : x ≡ v) where
-    pub of_one : n ≡ 1 → x ≡ first_of_two n v w
-    unfolding first_of_two
-    of_one h = e ∙ sym (ap (λ (k : ℕ). first_of_two k v w) h)
+  pub of_one : (Y : ℕ) → form ≡ Go Y → (r : Result (Unit {0}) Breach) → answered r ≡ f Y → answered r ≡ first_in (successors form) f
+  unfolding successors first_in
+  of_one Y h r e = e ∙ sym (or_last (f Y)) ∙ sym (ap (λ (k : Form). first_in (successors k) f) h)
 
-    pub of_two : (n ≡ 0 → ⊥) → (n ≡ 1 → ⊥) → (y r : Verdict) → y ≡ w → r ≡ or_else x y → r ≡ first_of_two n v w
-    unfolding first_of_two
-    of_two h l y r d o = o ∙ ap₂ or_else e d ∙ two n h l
+  module _ (Y Z : ℕ) (h : (form ≡ Either Y Z) ⊎ (form ≡ Both Y Z)) (r : Result (Unit {0}) Breach) (e : answered r ≡ f Y) where
+    two : or_else (f Y) (f Z) ≡ first_in (successors form) f
+    unfolding successors first_in
+    two = ap (or_else (f Y)) (sym (or_last (f Z))) ∙ by_form h
       where
-        two : (n : ℕ) → (n ≡ 0 → ⊥) → (n ≡ 1 → ⊥) → or_else v w ≡ first_of_two n v w
-        two zero h l = absurd (h refl)
-        two (suc zero) h l = absurd (l refl)
-        two (suc (suc n)) h l = refl
+        by_form : (form ≡ Either Y Z) ⊎ (form ≡ Both Y Z) → or_else (f Y) (or_else (f Z) Accepted) ≡ first_in (successors form) f
+        by_form (inl q) = sym (ap (λ (k : Form). first_in (successors k) f) q)
+        by_form (inr q) = sym (ap (λ (k : Form). first_in (successors k) f) q)
 
--- The walk over the successors that the code has.
-pub edges_of_lem : (plan : Plan) (X : ℕ) (a : Template) (s : Successors) (b c : Template) → a ≡ at plan X
-    → listed s ≡ successors a.form → b ≡ at plan s.first → c ≡ at plan s.second
-    → edges_of plan.identifiers X a s b c ≡ first_in (successors (at plan X).form) (check_edge plan X)
-unfolding edges_of first_of_two first_in
-edges_of_lem plan X a s b c k e p q =
-    ap₂ (first_of_two s.count) (edge-checked plan X s.first a b _ k p refl) (edge-checked plan X s.second a c _ k q refl)
-    ∙ walk s.count s.first s.second
-    ∙ ap (λ (l : List ℕ). first_in l (check_edge plan X)) (e ∙ ap (λ (t : Template). successors t.form) k)
-  where
-    walk : (n Y Z : ℕ) → first_of_two n (check_edge plan X Y) (check_edge plan X Z) ≡ first_in (list_for n Y Z) (check_edge plan X)
-    walk zero Y Z = refl
-    walk (suc zero) Y Z = sym (or_last (check_edge plan X Y))
-    walk (suc (suc n)) Y Z = ap (or_else (check_edge plan X Y)) (sym (or_last (check_edge plan X Z)))
+    pub of_first : (d : Breach) → r ≡ Err d → (s : Result (Unit {0}) Breach) → IsErrAnd s (λ e. e ≡ d) → answered s ≡ first_in (successors form) f
+    of_first d q s k = or_stops r (f Y) (f Z) d e q s k ∙ two
+
+    pub of_second : (u : Unit {0}) → r ≡ Ok u → (s : Result (Unit {0}) Breach) → answered s ≡ f Z → answered s ≡ first_in (successors form) f
+    of_second u q s k = k ∙ or_goes r (f Y) (f Z) u e q ∙ two
 
 -- ---- all templates
-
--- What the loop keeps: the edges of the first x templates are accepted; and past the places stands what is blank.
-pub record Passed (plan : Plan) (n x : ℕ) : Type 0 where
-  pub whole : n ≡ min plan.count 64
-  pub past : (X : ℕ) → 64 ≤ X → at plan X ≡ blank
-  pub below : x ≤ n
-  pub so_far : first_below x (λ X. first_in (successors (at plan X).form) (check_edge plan X)) ≡ Accepted
 
 module _ (plan : Plan) where
   abbrev each : ℕ → Verdict
   each X = first_in (successors (at plan X).form) (check_edge plan X)
 
-  pub edges_start : length plan.templates ≡ 64 → (n : ℕ) → n ≡ min plan.count 64 → Passed plan n 0
-  edges_start full n e = record { whole = e; past = template_past plan full; below = omega arith; so_far = below_none each }
+  -- What the loop keeps: the edges of the first x templates are accepted. That the row has its length is known once a template
+  -- was read.
+  pub record Passed (x : ℕ) : Type 0 where
+    pub so_far : first_below x each ≡ Accepted
+    pub row : 0 < x → length plan.templates ≡ 64
 
-  module _ (n x : ℕ) (p : Passed plan n x) where
-    -- Past the places no template has an edge.
-    edgeless : (X : ℕ) → 64 ≤ X → each X ≡ Accepted
-    unfolding successors first_in
-    edgeless X h = ap (λ (a : Template). first_in (successors a.form) (check_edge plan X)) (p.past X h)
+  pub edges_start : Passed 0
+  edges_start = record { so_far = below_none each; row = λ h. omega arith }
 
-    pub edges_end : n ≤ x → Accepted ≡ check_edges plan
-    unfolding check_edges
-    edges_end h =
-        let q : x ≡ min plan.count 64 = omega (arith, p.whole, p.below) in
-        sym (below_past plan.count 64 each edgeless (subst (λ (k : ℕ). first_below k each ≡ Accepted) q p.so_far))
+  module _ (x : ℕ) (p : Passed x) where
+    module _ (r : Result (Unit {0}) Breach) (e : answered r ≡ first_in (successors (get_or plan.templates x blank).form) (check_edge plan x)) where
+      here : answered r ≡ each x
+      unfolding at
+      here = e
 
-    pub edges_room : x < n → Fits w8 (x + 1)
-    edges_room h = let s = p.whole in omega arith
+      pub edges_more : length plan.templates ≡ 64 → (u : Unit {0}) → r ≡ Ok u → Passed (x + 1)
+      edges_more full u q = record { so_far = below_more x each p.so_far (sym here ∙ ap answered q); row = λ h. full }
 
-    -- a is template x, s its successors, b and c the templates there; o is whether v, the answer for them, is accepted.
-    module _ (l : x < n) (a : Template) (k : a ≡ at plan x) (s : Successors) (g : listed s ≡ successors a.form)
-        (b c : Template) (p₁ : b ≡ at plan s.first) (p₂ : c ≡ at plan s.second)
-        (v : Verdict) (q : v ≡ edges_of plan.identifiers x a s b c) (o : Bool) (t : o ≡ accepted v) where
-      e : v ≡ each x
-      e = q ∙ edges_of_lem plan x a s b c k g p₁ p₂
-
-      pub edges_hit : o ≡ false → v ≡ check_edges plan
+      pub edges_hit : x < plan.count → (d : Breach) → r ≡ Err d → (s : Result (Unit {0}) Breach) → IsErrAnd s (λ e. e ≡ d) → answered s ≡ check_edges plan
       unfolding check_edges
-      edges_hit f = let h = p.whole in below_leaves plan.count each x v (omega arith) p.so_far e o t f
+      edges_hit l d q s k = below_breaks plan.count each x l p.so_far r d here q s k
 
-      pub edges_more : o ≡ true → Passed plan n (x + 1)
-      edges_more f = record { whole = p.whole; past = p.past; below = omega arith; so_far = below_more x each p.so_far (sym e ∙ accepted_is v (sym t ∙ f)) }
+    -- Past the places no template has an edge.
+    edgeless : length plan.templates ≡ 64 → (X : ℕ) → 64 ≤ X → each X ≡ Accepted
+    unfolding successors first_in
+    edgeless full X h = ap (λ (a : Template). first_in (successors a.form) (check_edge plan X)) (template_past plan full X h)
+
+    pub edges_end : (n : ℕ) → n ≡ min plan.count 64 → x ≤ n → n ≤ x → Accepted ≡ check_edges plan
+    unfolding check_edges
+    edges_end n e l h = whole (lt_or_le 0 x)
+      where
+        whole : (0 < x) ⊎ (x ≤ 0) → Accepted ≡ first_below plan.count each
+        whole (inl some) =
+            let q : x ≡ min plan.count 64 = omega arith in
+            sym (below_past plan.count 64 each (edgeless (p.row some)) (subst (λ (k : ℕ). first_below k each ≡ Accepted) q p.so_far))
+        whole (inr none) = let q : x ≡ plan.count = omega arith in sym (subst (λ (k : ℕ). first_below k each ≡ Accepted) q p.so_far)

@@ -1,83 +1,100 @@
 -- Rules 12 to 16 by masks: the lowest item of each row's mask below the limit is the verdict's identifier, and the rows
 -- asked one after the other are the table.
-use Prim.Native.Nat.{ℕ, ◌≤◌, ◌<◌}
-use mathlib.Core.Path.{◌≡◌, refl, sym, ap, ap₂, subst, ◌∙◌, fun_ext}
+use Prim.Native.Nat.{ℕ}
+use mathlib.Core.Path.{◌≡◌, sym, ap, ap₂, ◌∙◌, fun_ext}
 use mathlib.Core.Bool.{Bool, cond}
 use lib.Dec.{ltb}
 use borrow.Author.Tests.{lt-ltb, le-ltb}
+use Rattle.std.specs.Prelude.{Option, Some, None, Result, Ok, Err, IsErrAnd}
 use Rattle.lists.specs.Numbers.{lowest}
 use Rattle.mask.specs.Mask.{has}
 use Rattle.mask.specs.Sets.{Marks}
 use Rattle.plan.specs.declared.Template.{Template}
 use Rattle.plan.specs.declared.Plan.{Plan}
 use Rattle.plan.specs.Plan.{at}
+use Rattle.rules.specs.declared.Breach.{Breach}
 use Rattle.rules.specs.declared.Verdict.{Verdict}
-use Rattle.rules.specs.declared.Verdict.TheVariants.{Accepted, Broken, Unread}
+use Rattle.rules.specs.declared.Verdict.TheVariants.{Accepted}
 use Rattle.rules.specs.Judge.{edge_rules, broken, or_else, first_in, lowest_offender, check_edge, offends12, offends13, offends14, offends15, offends16}
-use Rattle.rules.proofs.Walk.{or_second}
-use Rattle.edges.specs.Wide.{edge_of}
-
-pub or_last : (v : Verdict) → or_else v Accepted ≡ v
-unfolding or_else
-or_last Accepted = refl
-or_last (Broken b) = refl
-or_last (Unread f) = refl
-
-or_or : (u v w : Verdict) → or_else u (or_else v w) ≡ or_else (or_else u v) w
-unfolding or_else
-or_or Accepted v w = refl
-or_or (Broken b) v w = refl
-or_or (Unread f) v w = refl
+use Rattle.rules.specs.Broken.{answered}
+use Rattle.rules.proofs.Walk.{or_last, or_stops, or_goes}
+use Rattle.offenders.specs.Lowest.{lowest_of}
+use Rattle.offenders.proofs.Masks.{some_lowest, none_lowest}
 
 -- ---- one rule
 
-module _ (m limit rule X Y i : ℕ) (e : i ≡ lowest limit (λ j. has j m)) (v : Verdict) where
-  pub rule_kept : limit ≤ i → v ≡ or_else v (lowest_offender limit rule X Y (λ j. has j m))
-  unfolding lowest_offender
-  rule_kept h =
-      sym (ap (or_else v)
-      (ap (λ (c : Bool). cond c (broken rule X Y (lowest limit (λ j. has j m))) Accepted)
-      (le-ltb (lowest limit (λ j. has j m)) limit (subst (λ (k : ℕ). limit ≤ k) e h)))
-      ∙ or_last v)
+module _ (limit m rule X Y : ℕ) (o : Option ℕ) (e : o ≡ lowest_of limit (λ j. has j m)) where
+  abbrev asked : ℕ → Bool → Verdict
+  asked j b = cond b (broken rule X Y j) Accepted
 
-  pub rule_broken : i < limit → (r : Verdict) → r ≡ or_else v (broken rule X Y i) → r ≡ or_else v (lowest_offender limit rule X Y (λ j. has j m))
+  pub rule_kept : o ≡ None → Accepted ≡ lowest_offender limit rule X Y (λ j. has j m)
   unfolding lowest_offender
-  rule_broken h r q =
-      q ∙ ap (or_else v)
-      (sym (ap (λ (j : ℕ). cond (ltb j limit) (broken rule X Y j) Accepted) (sym e)
-      ∙ ap (λ (c : Bool). cond c (broken rule X Y i) Accepted) (lt-ltb i limit h)))
+  rule_kept h = sym (ap (asked (lowest limit (λ j. has j m))) (le-ltb _ limit (none_lowest limit (λ j. has j m) o e h)))
+
+  pub rule_broken : (i : ℕ) → o ≡ Some i → broken rule X Y i ≡ lowest_offender limit rule X Y (λ j. has j m)
+  unfolding lowest_offender
+  rule_broken i h =
+      let w = some_lowest limit (λ j. has j m) o e i h in
+      sym (ap (λ (j : ℕ). asked j (ltb j limit)) (sym w.0) ∙ ap (asked i) (lt-ltb i limit w.1))
 
 -- ---- the table
 
-module _ (limit : ℕ) (a b : Template) (X Y : ℕ) where
-  -- A row asked by its mask, and what those after it give.
-  turn : (number : ℕ) (offends : ℕ → Bool) (rest v w : Verdict) (m : ℕ)
-      → Marks m offends → w ≡ or_else v (lowest_offender limit number X Y (λ i. has i m))
-      → or_else v (or_else (lowest_offender limit number X Y offends) rest) ≡ or_else w rest
-  turn number offends rest v w m marks e =
-      or_or v (lowest_offender limit number X Y offends) rest
-      ∙ ap (λ (x : Verdict). or_else x rest) (ap (λ (p : ℕ → Bool). or_else v (lowest_offender limit number X Y p)) (sym (fun_ext marks)) ∙ sym e)
+-- The templates a and b as they were read from the plan, and each row asked by its mask.
+module _ (plan : Plan) (X Y : ℕ) (a b : Template) (ea : a ≡ at plan X) (eb : b ≡ at plan Y) where
+  abbrev verdict : ℕ → (ℕ → Template → Template → ℕ → Bool) → Verdict
+  verdict number offends = lowest_offender plan.identifiers number X Y (offends (at plan X).lab (at plan X) (at plan Y))
 
-  -- All rows asked.
-  pub rows_asked : (m₁₂ m₁₃ m₁₄ m₁₅ m₁₆ : ℕ) (v₁₂ v₁₃ v₁₄ v₁₅ v₁₆ : Verdict)
-      → v₁₂ ≡ or_else Accepted (lowest_offender limit 12 X Y (λ i. has i m₁₂)) → Marks m₁₂ (offends12 a.lab a b)
-      → v₁₃ ≡ or_else v₁₂ (lowest_offender limit 13 X Y (λ i. has i m₁₃)) → Marks m₁₃ (offends13 a.lab a b)
-      → v₁₄ ≡ or_else v₁₃ (lowest_offender limit 14 X Y (λ i. has i m₁₄)) → Marks m₁₄ (offends14 a.lab a b)
-      → v₁₅ ≡ or_else v₁₄ (lowest_offender limit 15 X Y (λ i. has i m₁₅)) → Marks m₁₅ (offends15 a.lab a b)
-      → v₁₆ ≡ or_else v₁₅ (lowest_offender limit 16 X Y (λ i. has i m₁₆)) → Marks m₁₆ (offends16 a.lab a b)
-      → v₁₆ ≡ edge_of limit a b X Y
-  unfolding edge_of edge_rules first_in
-  rows_asked m₁₂ m₁₃ m₁₄ m₁₅ m₁₆ v₁₂ v₁₃ v₁₄ v₁₅ v₁₆ e₁₂ h₁₂ e₁₃ h₁₃ e₁₄ h₁₄ e₁₅ h₁₅ e₁₆ h₁₆ =
-      sym (or_second Accepted (edge_of limit a b X Y) refl
-      ∙ turn 12 (offends12 a.lab a b) _ Accepted v₁₂ m₁₂ h₁₂ e₁₂
-      ∙ turn 13 (offends13 a.lab a b) _ v₁₂ v₁₃ m₁₃ h₁₃ e₁₃
-      ∙ turn 14 (offends14 a.lab a b) _ v₁₃ v₁₄ m₁₄ h₁₄ e₁₄
-      ∙ turn 15 (offends15 a.lab a b) _ v₁₄ v₁₅ m₁₅ h₁₅ e₁₅
-      ∙ turn 16 (offends16 a.lab a b) _ v₁₅ v₁₆ m₁₆ h₁₆ e₁₆
-      ∙ or_last v₁₆)
+  row : (number : ℕ) (offends : ℕ → Template → Template → ℕ → Bool) (m : ℕ) (r : Result (Unit {0}) Breach) → Marks m (offends a.lab a b)
+      → answered r ≡ lowest_offender plan.identifiers number X Y (λ i. has i m) → answered r ≡ verdict number offends
+  row number offends m r marks e =
+      e ∙ ap (lowest_offender plan.identifiers number X Y) (fun_ext marks)
+      ∙ ap₂ (λ (a b : Template). lowest_offender plan.identifiers number X Y (offends a.lab a b)) ea eb
 
--- The templates as they were read from the plan.
-pub edge-checked : (plan : Plan) (X Y : ℕ) (a b : Template) (r : Verdict) → a ≡ at plan X → b ≡ at plan Y → r ≡ edge_of plan.identifiers a b X Y
-    → r ≡ check_edge plan X Y
-unfolding edge_of check_edge
-edge-checked plan X Y a b r e h k = k ∙ ap₂ (λ (x y : Template). edge_of plan.identifiers x y X Y) e h
+  -- What the rows from 13 on give, and those from 14, 15 and 16 on.
+  abbrev rest₁₆ : Verdict
+  rest₁₆ = or_else (verdict 16 offends16) Accepted
+
+  abbrev rest₁₅ : Verdict
+  rest₁₅ = or_else (verdict 15 offends15) rest₁₆
+
+  abbrev rest₁₄ : Verdict
+  rest₁₄ = or_else (verdict 14 offends14) rest₁₅
+
+  abbrev rest₁₃ : Verdict
+  rest₁₃ = or_else (verdict 13 offends13) rest₁₄
+
+  module _ (m₁₂ : ℕ) (h₁₂ : Marks m₁₂ (offends12 a.lab a b)) (r₁₂ : Result (Unit {0}) Breach)
+      (e₁₂ : answered r₁₂ ≡ lowest_offender plan.identifiers 12 X Y (λ i. has i m₁₂)) where
+    pub broken₁₂ : (d : Breach) → r₁₂ ≡ Err d → (s : Result (Unit {0}) Breach) → IsErrAnd s (λ e. e ≡ d) → answered s ≡ check_edge plan X Y
+    unfolding check_edge edge_rules first_in
+    broken₁₂ d q s k = or_stops r₁₂ _ rest₁₃ d (row 12 offends12 m₁₂ r₁₂ h₁₂ e₁₂) q s k
+
+    module _ (u₁₂ : Unit {0}) (q₁₂ : r₁₂ ≡ Ok u₁₂) (m₁₃ : ℕ) (h₁₃ : Marks m₁₃ (offends13 a.lab a b)) (r₁₃ : Result (Unit {0}) Breach)
+        (e₁₃ : answered r₁₃ ≡ lowest_offender plan.identifiers 13 X Y (λ i. has i m₁₃)) where
+      from₁₃ : rest₁₃ ≡ check_edge plan X Y
+      unfolding check_edge edge_rules first_in
+      from₁₃ = or_goes r₁₂ _ rest₁₃ u₁₂ (row 12 offends12 m₁₂ r₁₂ h₁₂ e₁₂) q₁₂
+
+      pub broken₁₃ : (d : Breach) → r₁₃ ≡ Err d → (s : Result (Unit {0}) Breach) → IsErrAnd s (λ e. e ≡ d) → answered s ≡ check_edge plan X Y
+      broken₁₃ d q s k = or_stops r₁₃ _ rest₁₄ d (row 13 offends13 m₁₃ r₁₃ h₁₃ e₁₃) q s k ∙ from₁₃
+
+      module _ (u₁₃ : Unit {0}) (q₁₃ : r₁₃ ≡ Ok u₁₃) (m₁₄ : ℕ) (h₁₄ : Marks m₁₄ (offends14 a.lab a b)) (r₁₄ : Result (Unit {0}) Breach)
+          (e₁₄ : answered r₁₄ ≡ lowest_offender plan.identifiers 14 X Y (λ i. has i m₁₄)) where
+        from₁₄ : rest₁₄ ≡ check_edge plan X Y
+        from₁₄ = or_goes r₁₃ _ rest₁₄ u₁₃ (row 13 offends13 m₁₃ r₁₃ h₁₃ e₁₃) q₁₃ ∙ from₁₃
+
+        pub broken₁₄ : (d : Breach) → r₁₄ ≡ Err d → (s : Result (Unit {0}) Breach) → IsErrAnd s (λ e. e ≡ d) → answered s ≡ check_edge plan X Y
+        broken₁₄ d q s k = or_stops r₁₄ _ rest₁₅ d (row 14 offends14 m₁₄ r₁₄ h₁₄ e₁₄) q s k ∙ from₁₄
+
+        module _ (u₁₄ : Unit {0}) (q₁₄ : r₁₄ ≡ Ok u₁₄) (m₁₅ : ℕ) (h₁₅ : Marks m₁₅ (offends15 a.lab a b)) (r₁₅ : Result (Unit {0}) Breach)
+            (e₁₅ : answered r₁₅ ≡ lowest_offender plan.identifiers 15 X Y (λ i. has i m₁₅)) where
+          from₁₅ : rest₁₅ ≡ check_edge plan X Y
+          from₁₅ = or_goes r₁₄ _ rest₁₅ u₁₄ (row 14 offends14 m₁₄ r₁₄ h₁₄ e₁₄) q₁₄ ∙ from₁₄
+
+          pub broken₁₅ : (d : Breach) → r₁₅ ≡ Err d → (s : Result (Unit {0}) Breach) → IsErrAnd s (λ e. e ≡ d) → answered s ≡ check_edge plan X Y
+          broken₁₅ d q s k = or_stops r₁₅ _ rest₁₆ d (row 15 offends15 m₁₅ r₁₅ h₁₅ e₁₅) q s k ∙ from₁₅
+
+          pub asked₁₆ : (u₁₅ : Unit {0}) → r₁₅ ≡ Ok u₁₅ → (m₁₆ : ℕ) → Marks m₁₆ (offends16 a.lab a b) → (r₁₆ : Result (Unit {0}) Breach)
+              → answered r₁₆ ≡ lowest_offender plan.identifiers 16 X Y (λ i. has i m₁₆) → answered r₁₆ ≡ check_edge plan X Y
+          asked₁₆ u₁₅ q₁₅ m₁₆ h₁₆ r₁₆ e₁₆ =
+              row 16 offends16 m₁₆ r₁₆ h₁₆ e₁₆ ∙ sym (or_last _) ∙ or_goes r₁₅ _ rest₁₆ u₁₅ (row 15 offends15 m₁₅ r₁₅ h₁₅ e₁₅) q₁₅ ∙ from₁₅

@@ -10,7 +10,7 @@ use Rattle.lists.proofs.Tabulate.{get_or-tabulate}
 use Rattle.mask.specs.Mask.{has}
 use Rattle.plan.specs.declared.Plan.{Plan}
 use Rattle.plan.specs.Plan.{at, successors, creates}
-use Rattle.layout.specs.declared.Layout.{Layout}
+use Rattle.route.specs.declared.Layout.{Layout}
 use Rattle.route.specs.Search.{in_mask, collect, only, reach, targets, fork_crosses, leads, any_in, shares_over, splits_over, shares_tag, splits_tag}
 use Rattle.route.specs.Lent.{laid_out}
 use Rattle.layout.specs.Layout.{firsts, seconds, creations, made_by, forked, forks, layout_of}

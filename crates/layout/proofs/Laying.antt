@@ -11,7 +11,7 @@ use Rattle.lists.specs.Numbers.{tabulate}
 use Rattle.lists.proofs.Tabulate.{filled_more, filled_all}
 use Rattle.plan.specs.declared.Plan.{Plan}
 use Rattle.plan.specs.Plan.{blank, at}
-use Rattle.layout.specs.declared.Layout.{Layout}
+use Rattle.route.specs.declared.Layout.{Layout}
 use Rattle.route.specs.Search.{in_mask, including, collect, reach}
 use Rattle.route.specs.Lent.{laid_out}
 use Rattle.layout.specs.Layout.{first_of, second_of, is_fork, firsts, seconds, creations, forked, forks, all_forks, layout_of}
@@ -38,7 +38,6 @@ module _ (f : ℕ → ℕ) (xs : List ℕ) where
 
 -- What the loop keeps: all is laid out below x.
 pub record Laying (plan : Plan) (first second creates : List ℕ) (found x : ℕ) : Type 0 where
-  pub below : x ≤ 64
   pub at_first : Filled (λ X. first_of (at plan X).form) first x
   pub at_second : Filled (λ X. second_of (at plan X).form) second x
   pub at_creates : Filled (λ X. (at plan X).creates) creates x
@@ -47,7 +46,6 @@ pub record Laying (plan : Plan) (first second creates : List ℕ) (found x : ℕ
 module _ (plan : Plan) (first second creates : List ℕ) where
   pub lay_start : length first ≡ 64 → length second ≡ 64 → length creates ≡ 64 → Laying plan first second creates 0 0
   lay_start e h k = record {
-    below = omega arith;
     at_first = filled_none _ first e;
     at_second = filled_none _ second h;
     at_creates = filled_none _ creates k;
@@ -55,22 +53,20 @@ module _ (plan : Plan) (first second creates : List ℕ) where
   }
 
   module _ (found x : ℕ) (s : Laying plan first second creates found x) where
-    pub lay_more : x < 64 → (v w r : ℕ) (b : Bool) → v ≡ first_of (get_or plan.templates x blank).form → w ≡ second_of (get_or plan.templates x blank).form
-        → b ≡ is_fork (get_or plan.templates x blank).form → r ≡ including found x b
-        → Laying plan (set first x v) (set second x w) (set creates x (get_or plan.templates x blank).creates) r (x + 1)
+    pub lay_more : (p : ℕ × ℕ) → p ≡ (first_of (get_or plan.templates x blank).form, second_of (get_or plan.templates x blank).form) → x < 64
+        → (r : ℕ) (b : Bool) → b ≡ is_fork (get_or plan.templates x blank).form → r ≡ including found x b
+        → Laying plan (set first x p.0) (set second x p.1) (set creates x (get_or plan.templates x blank).creates) r (x + 1)
     unfolding at forked
-    lay_more l v w r b e h k q = record {
-      below = omega arith;
-      at_first = filled_next _ first x s.at_first v l e;
-      at_second = filled_next _ second x s.at_second w l h;
+    lay_more p e l r b k q = record {
+      at_first = filled_next _ first x s.at_first p.0 l (ap (λ (p : ℕ × ℕ). p.0) e);
+      at_second = filled_next _ second x s.at_second p.1 l (ap (λ (p : ℕ × ℕ). p.1) e);
       at_creates = filled_next _ creates x s.at_creates _ l refl;
       at_forks = collect_more (forked plan) x found r b s.at_forks k q;
     }
 
-    pub lay_end : 64 ≤ x → ◌≡◌ {A = Layout} (record { first = first; second = second; creates = creates; forks = found }) (all_forks plan)
+    pub lay_end : x ≤ 64 → 64 ≤ x → ◌≡◌ {A = Layout} (record { first = first; second = second; creates = creates; forks = found }) (all_forks plan)
     unfolding all_forks firsts seconds creations
-    lay_end g i =
-        let low = s.below in
+    lay_end low g i =
         let q : x ≡ 64 = omega arith in
         record {
           first = filled_end _ first x s.at_first q i;

@@ -1,7 +1,7 @@
 -- A plan laid out for searching, as the code lends it: the first successor of each template, the second one, what each
 -- creates, and the forks. A successor that is lacking is 64, where no search enters.
 -- Not to be believed: proofs/Layouts.antt says that searches over a layout are those over its plan.
-use Rattle.std.specs.Prelude.{ℕ, ◌≡◌, Bool, true, false, List, get_or}
+use Rattle.std.specs.Prelude.{ℕ, Bool, true, false, List, get_or}
 use Rattle.std.specs.Int.Bits.{bit_and}
 use Rattle.lists.specs.Numbers.{tabulate}
 use Rattle.mask.specs.Mask.{has}
@@ -9,7 +9,7 @@ use Rattle.plan.specs.declared.Form.{Form}
 use Rattle.plan.specs.declared.Form.TheVariants.{End, Go, Either, Both}
 use Rattle.plan.specs.declared.Plan.{Plan}
 use Rattle.plan.specs.Plan.{at}
-use Rattle.layout.specs.declared.Layout.{Layout}
+use Rattle.route.specs.declared.Layout.{Layout}
 use Rattle.route.specs.Search.{in_mask, collect, reach}
 
 abbrev pub first_of : Form → ℕ
@@ -55,7 +55,3 @@ all_forks plan = record { first = firsts plan; second = seconds plan; creates = 
 
 unfoldable pub layout_of : Plan → Layout
 layout_of plan = record { first = firsts plan; second = seconds plan; creates = creations plan; forks = forks plan }
-
--- What is lent is the layout of the plan.
-abbrev pub Laid : Plan → List ℕ → List ℕ → List ℕ → ℕ → Type 0
-Laid plan first second masks reached = ◌≡◌ {A = Layout} (record { first = first; second = second; creates = masks; forks = reached }) (layout_of plan)

@@ -5,71 +5,47 @@ ghost use Rattle.std.specs.Prelude.{◌≡◌};
 ghost use Rattle.route.specs.Search.{collect};
 ghost use Rattle.layout.specs.Layout.{first_of, second_of, is_fork, made_by, all_forks, layout_of};
 
+use mask::Mask;
 use plan::{Form, Plan};
+use route::Layout;
 
-// A plan laid out: the successors of each template, the masks of what each creates, and the forks.
-#[derive(Clone, Copy)]
-pub struct Layout {
-    pub first: [u8; 64],
-    pub second: [u8; 64],
-    pub creates: [u32; 64],
-    pub forks: u64,
-}
-
-// A successor that a template lacks: no place of a plan, so no search enters it.
+// A successor that a template lacks: no place of a plan, so no search enters it. Not an Option: a search asks of each
+// successor whether it is a place, since a plan may name any byte.
 const NOWHERE: u8 = 64;
 
-// The first successor, the second one, and whether they are branches.
-fn first_of(form: Form) -> u8
-    ensures { result ≡ first_of form }
+// The first successor and the second one.
+fn successors(form: Form) -> (u8, u8)
+    ensures { result ≡ (first_of form, second_of form) }
 {
     match form {
-        Form::End => NOWHERE,
-        Form::Go(y) => y,
-        Form::Either(y, _) => y,
-        Form::Both(y, _) => y,
-    }
-}
-
-fn second_of(form: Form) -> u8
-    ensures { result ≡ second_of form }
-{
-    match form {
-        Form::End => NOWHERE,
-        Form::Go(_) => NOWHERE,
-        Form::Either(_, z) => z,
-        Form::Both(_, z) => z,
+        Form::End => (NOWHERE, NOWHERE),
+        Form::Go(y) => (y, NOWHERE),
+        Form::Either(y, z) | Form::Both(y, z) => (y, z),
     }
 }
 
 fn is_fork(form: Form) -> bool
     ensures { result ≡ is_fork form }
 {
-    match form {
-        Form::End => false,
-        Form::Go(_) => false,
-        Form::Either(_, _) => false,
-        Form::Both(_, _) => true,
-    }
+    matches!(form, Form::Both(..))
 }
 
 // What stands in each template; as forks, all that are a `both`.
-fn lay_templates(plan: Plan) -> Layout
-    ensures { result ≡ all_forks plan }
+fn lay_templates(plan: &Plan) -> Layout
+    ensures { result ≡ all_forks plan.now }
 {
-    let mut first = [0u8; 64];
-    let mut second = [0u8; 64];
+    let mut first = [NOWHERE; 64];
+    let mut second = [NOWHERE; 64];
     let mut creates = [0u32; 64];
     let mut forks: u64 = 0;
-    let mut x: u8 = 0;
-    while x < 64 {
-        let template = plan.templates[x as usize];
-        let form = template.form;
-        first[x as usize] = first_of(form);
-        second[x as usize] = second_of(form);
-        creates[x as usize] = template.creates;
-        forks = route::include(forks, x, is_fork(form));
-        x += 1;
+    for x in 0..64u8 {
+        let i = x as usize;
+        let template = plan.templates[i];
+        let (y, z) = successors(template.form);
+        first[i] = y;
+        second[i] = z;
+        creates[i] = template.creates;
+        forks = route::include(forks, x, is_fork(template.form));
     }
     Layout {
         first,
@@ -80,32 +56,25 @@ fn lay_templates(plan: Plan) -> Layout
 }
 
 // The layout of a plan. A fork is reached from the root: one search.
-pub fn lay_out(plan: Plan) -> Layout
-    ensures { result ≡ layout_of plan }
+pub fn lay_out(plan: &Plan) -> Layout
+    ensures { result ≡ layout_of plan.now }
 {
     let laid = lay_templates(plan);
-    let first = laid.first;
-    let second = laid.second;
-    let creates = laid.creates;
-    let root = route::search_from(&first, &second, 0, 0);
+    let root = laid.search_from(0, 0);
     Layout {
-        first,
-        second,
-        creates,
         forks: root & laid.forks,
+        ..laid
     }
 }
 
 // The templates that create identifier t, by the masks of what each creates.
-pub fn creators(creates: &[u32; 64], t: u32) -> u64
-    ensures { result ≡ collect 64 (made_by creates.now t) }
+pub fn creators(layout: &Layout, t: u32) -> u64
+    ensures { result ≡ collect 64 (made_by layout.now.creates t) }
 {
     let mut found: u64 = 0;
-    let mut x: u8 = 0;
-    while x < 64 {
-        let made = mask::contains_u32(creates[x as usize], t);
+    for x in 0..64u8 {
+        let made = layout.creates[x as usize].contains(t);
         found = route::include(found, x, made);
-        x += 1;
     }
     found
 }

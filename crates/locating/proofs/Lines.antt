@@ -37,8 +37,8 @@ pub record Skipping (text : List ℕ) (skipped start left : ℕ) : Type 0 where
   pub inside : start ≤ length text
   pub same : line_start skipped 0 text ≡ line_start left start text
 
-pub skip_none : (text : List ℕ) (skipped : ℕ) → Skipping text skipped 0 skipped
-skip_none text skipped = record { inside = omega arith; same = refl }
+pub skip_none : (text : List ℕ) (skipped : ℕ) → Skipping text skipped 0 (skipped - 0)
+skip_none text skipped = let q : skipped ≡ skipped - 0 = omega arith in record { inside = omega arith; same = ap (λ (k : ℕ). line_start k 0 text) q }
 
 -- One line more.
 one_line : (text : List ℕ) (start left n : ℕ) → 0 < left → n ≡ before 10 (rest text start)
@@ -57,12 +57,13 @@ module _ (text : List ℕ) (skipped start left : ℕ) (s : Skipping text skipped
         sym (s.same ∙ one_line text start left n h e
         ∙ ap (λ (b : Bool). cond b (line_start (left - 1) (start + n + 1) text) (length text)) (le-ltb (start + n) (length text) g))
 
-    pub skip_line : start + n < length text → Skipping text skipped (start + n + 1) (left - 1)
-    skip_line g = record {
+    pub skip_line : start + n < length text → (less : ℕ) → left - 1 ≡ less → Skipping text skipped (start + n + 1) less
+    skip_line g less q = record {
       inside = omega arith;
       same =
           s.same ∙ one_line text start left n h e
-          ∙ ap (λ (b : Bool). cond b (line_start (left - 1) (start + n + 1) text) (length text)) (lt-ltb (start + n) (length text) g);
+          ∙ ap (λ (b : Bool). cond b (line_start (left - 1) (start + n + 1) text) (length text)) (lt-ltb (start + n) (length text) g)
+          ∙ ap (λ (k : ℕ). line_start k (start + n + 1) text) q;
     }
 
   pub skip_done : left ≤ 0 → start ≡ line_start skipped 0 text

@@ -1,6 +1,6 @@
 -- The part that a verdict shows: where it lies.
 use Prim.Native.Nat.{ℕ, ◌+◌, ◌*◌}
-use mathlib.Core.Path.{◌≡◌, sym, ap, ap₂, ◌∙◌}
+use mathlib.Core.Path.{◌≡◌, sym, ap, ◌∙◌}
 use mathlib.Core.Bool.{Bool, true, false, cond, ◌||◌}
 use mathlib.Core.List.{List}
 use lib.Dec.{eqb}
@@ -15,33 +15,31 @@ use Rattle.text.specs.Reading.{plan_header, template_lines, policy_header, asser
 use Rattle.rules.specs.Show.{from, text_of, line_start, line_end, faulty_line, name_of, kind_line, located}
 use Rattle.rules.specs.Judge.{is_edge_rule}
 
-pub name_lies : (X start end : ℕ) (plan : List ℕ) → start ≡ line_start (plan_header + template_lines * X) 0 plan → end ≡ line_end start plan
-    → from PlanText (start + 5) end ≡ name_of X plan
+-- Each by its line as it was found.
+pub name_lies : (X start : ℕ) (plan : List ℕ) (line : Part) → start ≡ line_start (plan_header + template_lines * X) 0 plan → line ≡ from PlanText start (line_end start plan)
+    → ◌≡◌ {A = Part} (record { text = line.text; start = line.start + 5; end = line.end }) (name_of X plan)
 unfolding name_of
-name_lies X start end plan e h = ap₂ (λ (s t : ℕ). from PlanText (s + 5) t) e (h ∙ ap (λ (s : ℕ). line_end s plan) e)
+name_lies X start plan line e h =
+    ap (λ (p : Part). record { text = p.text; start = p.start + 5; end = p.end }) h ∙ ap (λ (s : ℕ). from PlanText (s + 5) (line_end s plan)) e
 
-pub kind_lies : (i start end : ℕ) (policy : List ℕ) → start ≡ line_start (policy_header + assertion_lines * i) 0 policy → end ≡ line_end start policy
-    → from PolicyText start end ≡ kind_line i policy
+pub kind_lies : (i start : ℕ) (policy : List ℕ) (line : Part) → start ≡ line_start (policy_header + assertion_lines * i) 0 policy
+    → line ≡ from PolicyText start (line_end start policy) → line ≡ kind_line i policy
 unfolding kind_line
-kind_lies i start end policy e h = ap₂ (from PolicyText) e (h ∙ ap (λ (s : ℕ). line_end s policy) e)
+kind_lies i start policy line e h = h ∙ ap (λ (s : ℕ). from PolicyText s (line_end s policy)) e
 
 module _ (plan policy : List ℕ) where
-  fault_lies : (f : Fault) (start end : ℕ) → start ≡ faulty_line f.line (text_of f.text plan policy) → end ≡ line_end start (text_of f.text plan policy)
-      → from f.text start end ≡ located (Unread f) plan policy
+  abbrev of_text : Text → ℕ → Part
+  of_text text line = let start = faulty_line line (text_of text plan policy) in from text start (line_end start (text_of text plan policy))
+
+  pub fault_plan : (f : Fault) (start : ℕ) (line : Part) → f.text ≡ PlanText → start ≡ faulty_line f.line plan → line ≡ from PlanText start (line_end start plan)
+      → line ≡ located (Unread f) plan policy
   unfolding located
-  fault_lies f start end e h = ap₂ (from f.text) e (h ∙ ap (λ (s : ℕ). line_end s (text_of f.text plan policy)) e)
+  fault_plan f start line t e h = h ∙ ap (λ (s : ℕ). from PlanText s (line_end s plan)) e ∙ sym (ap (λ (x : Text). of_text x f.line) t)
 
-  pub fault_plan : (f : Fault) (start end : ℕ) → f.text ≡ PlanText → start ≡ faulty_line f.line plan → end ≡ line_end start plan
-      → from f.text start end ≡ located (Unread f) plan policy
-  fault_plan f start end t e h =
-      let q : text_of f.text plan policy ≡ plan = ap (λ (x : Text). text_of x plan policy) t in
-      fault_lies f start end (e ∙ ap (faulty_line f.line) (sym q)) (h ∙ ap (line_end start) (sym q))
-
-  pub fault_policy : (f : Fault) (start end : ℕ) → f.text ≡ PolicyText → start ≡ faulty_line f.line policy → end ≡ line_end start policy
-      → from f.text start end ≡ located (Unread f) plan policy
-  fault_policy f start end t e h =
-      let q : text_of f.text plan policy ≡ policy = ap (λ (x : Text). text_of x plan policy) t in
-      fault_lies f start end (e ∙ ap (faulty_line f.line) (sym q)) (h ∙ ap (line_end start) (sym q))
+  pub fault_policy : (f : Fault) (start : ℕ) (line : Part) → f.text ≡ PolicyText → start ≡ faulty_line f.line policy
+      → line ≡ from PolicyText start (line_end start policy) → line ≡ located (Unread f) plan policy
+  unfolding located
+  fault_policy f start line t e h = h ∙ ap (λ (s : ℕ). from PolicyText s (line_end s policy)) e ∙ sym (ap (λ (x : Text). of_text x f.line) t)
 
   module _ (v : Verdict) where
     pub accepted_lies : v ≡ Accepted → from PlanText 0 0 ≡ located v plan policy

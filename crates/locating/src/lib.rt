@@ -3,7 +3,7 @@
 
 ghost use Rattle.std.specs.Prelude.{◌≡◌, ◌≤◌, length};
 ghost use Rattle.rules.specs.declared.Verdict.TheVariants.{Unread};
-ghost use Rattle.rules.specs.Show.{line_start, line_end, faulty_line, name_of, kind_line, located};
+ghost use Rattle.rules.specs.Show.{from, line_start, line_end, faulty_line, name_of, kind_line, located};
 
 use rules::{Fault, Part, Text, Verdict};
 
@@ -16,14 +16,12 @@ fn line_start(text: &[u8], skipped: usize) -> usize
     ensures room { result ≤ length text.now }
 {
     let mut start = 0;
-    let mut left = skipped;
-    while 0 < left {
+    for _ in 0..skipped {
         let end = start + scan::find(&text[start..], 10);
         if text.len() <= end {
             return text.len();
         }
         start = end + 1;
-        left -= 1;
     }
     start
 }
@@ -47,19 +45,27 @@ fn faulty_line(text: &[u8], line: u32) -> usize
     line_start(text, (line - 1) as usize)
 }
 
+// The line that begins there.
+fn line_part(text: Text, bytes: &[u8], start: usize) -> Part
+    requires { start ≤ length bytes.now }
+    ensures { result ≡ from text start (line_end start bytes.now) }
+{
+    Part {
+        text,
+        start,
+        end: line_end(bytes, start),
+    }
+}
+
 // The name of template x: its line without the key.
 fn name_part(plan: &[u8], x: u8) -> Part
     ensures { result ≡ name_of x plan.now }
 {
-    let start = line_start(
-        plan,
-        text::PLAN_HEADER + text::TEMPLATE_LINES * (x as usize),
-    );
-    let end = line_end(plan, start);
+    let skipped = text::PLAN_HEADER + text::TEMPLATE_LINES * x as usize;
+    let line = line_part(Text::Plan, plan, line_start(plan, skipped));
     Part {
-        text: Text::Plan,
-        start: start + NAME_KEY,
-        end,
+        start: line.start + NAME_KEY,
+        ..line
     }
 }
 
@@ -67,34 +73,17 @@ fn name_part(plan: &[u8], x: u8) -> Part
 fn kind_part(policy: &[u8], i: u8) -> Part
     ensures { result ≡ kind_line i policy.now }
 {
-    let start = line_start(
-        policy,
-        text::POLICY_HEADER + text::ASSERTION_LINES * (i as usize),
-    );
-    let end = line_end(policy, start);
-    Part {
-        text: Text::Policy,
-        start,
-        end,
-    }
+    let skipped = text::POLICY_HEADER + text::ASSERTION_LINES * i as usize;
+    line_part(Text::Policy, policy, line_start(policy, skipped))
 }
 
 // The faulty line.
 fn fault_part(plan: &[u8], policy: &[u8], fault: Fault) -> Part
     ensures { result ≡ located (Unread fault) plan.now policy.now }
 {
-    let text = fault.text;
-    match text {
-        Text::Plan => {
-            let start = faulty_line(plan, fault.line);
-            let end = line_end(plan, start);
-            Part { text, start, end }
-        }
-        Text::Policy => {
-            let start = faulty_line(policy, fault.line);
-            let end = line_end(policy, start);
-            Part { text, start, end }
-        }
+    match fault.text {
+        Text::Plan => line_part(Text::Plan, plan, faulty_line(plan, fault.line)),
+        Text::Policy => line_part(Text::Policy, policy, faulty_line(policy, fault.line)),
     }
 }
 
@@ -110,9 +99,10 @@ pub fn locate_verdict(plan: &[u8], policy: &[u8], verdict: Verdict) -> Part
         },
         Verdict::Broken(b) => {
             if (b.rule == 11) | rules::is_edge_rule(b.rule) {
-                return name_part(plan, b.first);
+                name_part(plan, b.first)
+            } else {
+                kind_part(policy, b.first)
             }
-            kind_part(policy, b.first)
         }
         Verdict::Unread(fault) => fault_part(plan, policy, fault),
     }

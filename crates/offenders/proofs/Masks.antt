@@ -1,22 +1,23 @@
 -- What is in the masks of offenders, and the lowest item below a limit.
-use Prim.Native.Nat.{ℕ, ◌^◌, ◌≤◌, ◌<◌}
-use mathlib.Core.Path.{◌≡◌, sym, ap, subst, ◌∙◌}
-use mathlib.Core.Logic.{◌⊎◌, inl, inr, ⊎_elim}
-use mathlib.Core.Bool.{Bool, true, false, not, ◌&&◌, ◌||◌}
-use native.Mathlib.Nat.{le_trans}
+use Prim.Native.Nat.{ℕ, ◌^◌, ◌≤◌, ◌<◌, min}
+use mathlib.Core.Path.{◌≡◌, refl, sym, ap, subst, ◌∙◌}
+use mathlib.Core.Logic.{⊎_elim}
+use mathlib.Core.Bool.{Bool, true, false, not, cond, ◌&&◌, ◌||◌}
 use native.Mathlib.Omega.{arith}
 use lib.Dec.{ltb}
+use Rattle.std.specs.Prelude.{Option, Some, None, is_some, IfSome}
 use mir.Syntax.{w8}
 use mir.Val.{Fits}
 use lib.Bits.{bit_and, bit_or}
-use borrow.Author.Tests.{ltb-true, lt-ltb}
+use borrow.Author.Tests.{ltb-true, lt-ltb, le-ltb, ltb-false}
 use Rattle.lists.specs.Numbers.{lowest}
-use Rattle.lists.proofs.Tests.{lt_or_le, and_left, and_right, and_of, passes_fails}
+use Rattle.lists.proofs.Tests.{lt_or_le}
 use Rattle.lists.proofs.Lowest.{lowest-holds, lowest-below, lowest_is, lowest_none, lowest_ext}
 use Rattle.mask.specs.Mask.{has, without}
 use Rattle.mask.specs.Sets.{Marks}
 use Rattle.mask.proofs.Items.{has_or, has_and, has-without}
 use Rattle.mask.proofs.Width.{has_past}
+use Rattle.offenders.specs.Lowest.{lowest_of}
 
 -- ---- what is in the mask
 
@@ -34,30 +35,57 @@ in_both a b i = has_and i a b
 
 -- ---- the lowest below a limit
 
+module _ (limit : ℕ) (test : ℕ → Bool) where
+  pub found_at : (i : ℕ) → i < limit → i ≡ lowest limit test → ◌≡◌ {A = Option ℕ} (Some i) (lowest_of limit test)
+  found_at i h q = sym (ap (λ (j : ℕ). cond (ltb j limit) (Some j) None) (sym q) ∙ ap (λ (b : Bool). cond b (Some i) None) (lt-ltb i limit h))
+
+  pub none_at : lowest limit test ≡ limit → ◌≡◌ {A = Option ℕ} None (lowest_of limit test)
+  none_at q = sym (ap (λ (j : ℕ). cond (ltb j limit) (Some j) None) q ∙ ap (λ (b : Bool). cond b (Some limit) None) (le-ltb limit limit (omega arith)))
+
 module _ (m limit i : ℕ) (e : i ≡ lowest 32 (λ j. has j m)) where
   fails_below : (j : ℕ) → j < i → has j m ≡ false
   fails_below j h = lowest-below 32 (λ j. has j m) j (subst (λ (k : ℕ). j < k) e h)
 
   -- It is the lowest of all,
-  pub found_below : (ltb i 32 && ltb i limit) ≡ true → (i ≡ lowest limit (λ j. has j m)) × (i < limit → i < 32)
-  found_below t =
-      let low = ltb-true i 32 (and_left (ltb i 32) (ltb i limit) t) in
-      let inside = ltb-true i limit (and_right (ltb i 32) (ltb i limit) t) in
-      let holds : has i m ≡ true = ap (λ (j : ℕ). has j m) e ∙ lowest-holds 32 (λ j. has j m) (subst (λ (k : ℕ). k < 32) e low) in
-      (sym (lowest_is limit (λ j. has j m) i inside holds fails_below), λ l. low)
+  pub found_below : i < min limit 32 → ◌≡◌ {A = Option ℕ} (Some i) (lowest_of limit (λ j. has j m))
+  found_below h =
+      let holds : has i m ≡ true = ap (λ (j : ℕ). has j m) e ∙ lowest-holds 32 (λ j. has j m) (subst (λ (k : ℕ). k < 32) e (omega arith)) in
+      found_at limit (λ j. has j m) i (omega arith) (sym (lowest_is limit (λ j. has j m) i (omega arith) holds fails_below))
 
   -- or there is none.
-  pub none_below : m < 2 ^ 32 → (ltb i 32 && ltb i limit) ≡ false → (limit ≡ lowest limit (λ j. has j m)) × (limit < limit → limit < 32)
-  none_below w t = (sym (lowest_none limit (λ j. has j m) (λ j l. none j l (lt_or_le i limit) (lt_or_le i 32))), λ l. omega arith)
+  pub none_below : m < 2 ^ 32 → min limit 32 ≤ i → ◌≡◌ {A = Option ℕ} None (lowest_of limit (λ j. has j m))
+  none_below w h =
+      none_at limit (λ j. has j m)
+      (lowest_none limit (λ j. has j m) (λ j l. ⊎_elim (λ k. fails_below j k) (λ k. has_past 32 m j w (omega arith)) (lt_or_le j i)))
+
+-- What is found, and what it says that nothing is.
+some_is : (b : Bool) (n i : ℕ) → ◌≡◌ {A = Option ℕ} (cond b (Some n) None) (Some i) → (b ≡ true) × (n ≡ i)
+some_is true n i e = (refl, cc)
+some_is false n i e = absurd (cc)
+
+none_is : (b : Bool) (n : ℕ) → ◌≡◌ {A = Option ℕ} (cond b (Some n) None) None → b ≡ false
+none_is true n e = absurd (cc)
+none_is false n e = refl
+
+module _ (limit : ℕ) (test : ℕ → Bool) (o : Option ℕ) (e : o ≡ lowest_of limit test) where
+  pub some_lowest : (i : ℕ) → o ≡ Some i → (i ≡ lowest limit test) × (i < limit)
+  some_lowest i h =
+      let w = some_is (ltb (lowest limit test) limit) (lowest limit test) i (sym e ∙ h) in
+      (sym w.1, subst (λ (k : ℕ). k < limit) w.1 (ltb-true (lowest limit test) limit w.0))
+
+  pub none_lowest : o ≡ None → limit ≤ lowest limit test
+  none_lowest h = ltb-false (lowest limit test) limit (none_is (ltb (lowest limit test) limit) (lowest limit test) (sym e ∙ h))
+
+  pub is_some_lowest : is_some o ≡ ltb (lowest limit test) limit
+  is_some_lowest = ap (λ (o : Option ℕ). is_some o) e ∙ go (ltb (lowest limit test) limit)
     where
-      none : (j : ℕ) → j < limit → (i < limit) ⊎ (limit ≤ i) → (i < 32) ⊎ (32 ≤ i) → has j m ≡ false
-      none j l (inr past) low = fails_below j (le_trans l past)
-      none j l (inl inside) (inl low) = absurd (passes_fails _ (and_of (ltb i 32) (ltb i limit) (lt-ltb i 32 low) (lt-ltb i limit inside)) t)
-      none j l (inl inside) (inr wide) = ⊎_elim (λ k. fails_below j (le_trans k wide)) (has_past 32 m j w) (lt_or_le j 32)
+      go : (b : Bool) → is_some (cond b (Some (lowest limit test)) None) ≡ b
+      go true = refl
+      go false = refl
 
 -- Found, it is a byte.
-pub item_room : (limit i : ℕ) → (i < limit → i < 32) → i < limit → Fits w8 i
-item_room limit i low h = let l = low h in omega arith
+pub item_room : (o : Option ℕ) (i : ℕ) → IfSome o (λ i. i < 32) → o ≡ Some i → Fits w8 i
+item_room o i low e = let l : i < 32 = subst (λ (o : Option ℕ). IfSome o (λ i. i < 32)) e low in omega arith
 
 -- The lowest item of the mask of a test is the lowest that passes.
 pub lowest_marked : (limit m : ℕ) (test : ℕ → Bool) → Marks m test → lowest limit (λ i. has i m) ≡ lowest limit test

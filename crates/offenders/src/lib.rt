@@ -2,11 +2,11 @@
 // signature. lab is lab x where the judge asks, and the process's label where a step does.
 #![tactic(auto)]
 
-ghost use Rattle.std.specs.Prelude.{◌≡◌, ◌<◌};
-ghost use Rattle.lists.specs.Numbers.{lowest};
+ghost use Rattle.std.specs.Prelude.{◌≡◌, ◌<◌, IfSome};
 ghost use Rattle.mask.specs.Mask.{has};
 ghost use Rattle.mask.specs.Sets.{Marks};
 ghost use Rattle.rules.specs.Judge.{offends12, offends13, offends14, offends15, offends16};
+ghost use Rattle.offenders.specs.Lowest.{lowest_of};
 
 use plan::Template;
 
@@ -45,13 +45,14 @@ pub fn offenders_16(lab: u32, x: Template, y: Template) -> u32
     y.creates & lab
 }
 
-// The lowest item of m below the limit, and the limit where there is none.
-pub fn lowest_below(limit: u32, m: u32) -> u32
-    ensures { (result ≡ lowest limit (λ i. has i m)) × (result < limit → result < 32) }
+// The lowest item of m below the limit, where there is one.
+pub fn lowest_below(limit: u32, m: u32) -> Option<u32>
+    ensures lowest { result ≡ lowest_of limit (λ i. has i m) }
+    ensures item { IfSome result (λ i. i < 32) }
 {
     let i = mask::lowest_item(m);
-    if (i < 32) & (i < limit) {
-        return i;
+    if i < limit.min(32) {
+        return Some(i);
     }
-    limit
+    None
 }

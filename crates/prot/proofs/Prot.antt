@@ -4,7 +4,6 @@ use Prim.Native.Nat.{ℕ, ◌+◌, ◌^◌, ◌≤◌, ◌<◌, min}
 use mathlib.Core.Path.{◌≡◌, refl, sym, ap, ap₂, subst, ◌∙◌}
 use mathlib.Core.Logic.{◌⊎◌, ⊎_elim, inl, inr}
 use mathlib.Core.Bool.{Bool, true, false, not, cond, ◌&&◌, true≢false, false≢true}
-use mathlib.Core.List.{List}
 use native.Mathlib.Nat.{lt_trans, le_trans}
 use native.Mathlib.Omega.{arith}
 use lib.Dec.{ltb}
@@ -19,7 +18,8 @@ use Rattle.mask.proofs.Items.{has_or, has_and, has-without, has_none, plus-has, 
 use Rattle.mask.proofs.Width.{has-below, has_past}
 use Rattle.plan.specs.declared.Assertion.{Assertion}
 use Rattle.route.specs.Search.{collect, splits_over}
-use Rattle.route.specs.Lent.{laid_out}
+use Rattle.route.specs.declared.Layout.{Layout}
+use Rattle.route.specs.Lent.{laid}
 use Rattle.layout.specs.Layout.{made_by}
 use Rattle.rules.specs.declared.Verdict.TheVariants.{Accepted}
 use Rattle.rules.specs.Judge.{broken, first_below}
@@ -30,48 +30,41 @@ use Rattle.prot.specs.Lent.{parted, prot_by, Picked}
 
 -- ---- one identifier that is asked
 
-module _ (first second masks : List ℕ) (forks asked : ℕ) (a : Assertion) (found t : ℕ) (k : Bool) (e : k ≡ has t asked) where
+module _ (l : Layout) (asked : ℕ) (a : Assertion) (found t : ℕ) (k : Bool) (e : k ≡ has t asked) where
   abbrev taken : Bool → Bool → ℕ
   taken x y = cond (x && y) (plus_below 32 found t) found
 
-  pub unasked : k ≡ false → found ≡ cond (has t asked && parted first second masks forks a t) (plus_below 32 found t) found
-  unasked f = sym (ap (λ (b : Bool). taken b (parted first second masks forks a t)) (sym e ∙ f))
+  pub unasked : k ≡ false → found ≡ cond (has t asked && parted l a t) (plus_below 32 found t) found
+  unasked f = sym (ap (λ (b : Bool). taken b (parted l a t)) (sym e ∙ f))
 
-  module _ (g : k ≡ true) (C : ℕ) (made : C ≡ collect 64 (made_by masks t)) (s : Bool) (j : s ≡ splits_over (laid_out first second) forks C a.source a.sink a.anc) where
-    splits : s ≡ parted first second masks forks a t
+  module _ (g : k ≡ true) (C : ℕ) (made : C ≡ collect 64 (made_by l.creates t)) (s : Bool) (j : s ≡ splits_over (laid l) l.forks C a.source a.sink a.anc) where
+    splits : s ≡ parted l a t
     unfolding parted
-    splits = j ∙ ap (λ (m : ℕ). splits_over (laid_out first second) forks m a.source a.sink a.anc) made
+    splits = j ∙ ap (λ (m : ℕ). splits_over (laid l) l.forks m a.source a.sink a.anc) made
 
-    pub unparted : s ≡ false → found ≡ cond (has t asked && parted first second masks forks a t) (plus_below 32 found t) found
+    pub unparted : s ≡ false → found ≡ cond (has t asked && parted l a t) (plus_below 32 found t) found
     unparted f = sym (ap₂ taken (sym e ∙ g) (sym splits ∙ f))
 
-    pub taken_in : s ≡ true → (r : ℕ) → r ≡ plus_below 32 found t → r ≡ cond (has t asked && parted first second masks forks a t) (plus_below 32 found t) found
+    pub taken_in : s ≡ true → (r : ℕ) → r ≡ plus_below 32 found t → r ≡ cond (has t asked && parted l a t) (plus_below 32 found t) found
     taken_in f r h = h ∙ sym (ap₂ taken (sym e ∙ g) (sym splits ∙ f))
 
 -- ---- all of them
 
--- What the loop keeps: of the identifiers below t, those that pass are found.
-pub record FoundSoFar (asked : ℕ) (parts : ℕ → Bool) (limit found t : ℕ) : Type 0 where
-  pub below : t ≤ limit
-  pub so_far : (i : ℕ) → has i found ≡ (ltb i t && (has i asked && parts i))
+-- Those below t, as the loop finds them.
+module _ (asked : ℕ) (parts : ℕ → Bool) where
+  pub found_none : Picked asked parts 0 0
+  found_none = record { each = λ i. has_none i ∙ sym (ap (λ (b : Bool). b && (has i asked && parts i)) (le-ltb i 0 (omega arith))) }
 
-module _ (asked : ℕ) (parts : ℕ → Bool) (limit : ℕ) where
-  pub found_none : FoundSoFar asked parts limit 0 0
-  found_none = record { below = omega arith; so_far = λ i. has_none i ∙ sym (ap (λ (b : Bool). b && (has i asked && parts i)) (le-ltb i 0 (omega arith))) }
-
-  module _ (found t : ℕ) (s : FoundSoFar asked parts limit found t) where
-    pub found_end : limit ≤ t → Picked asked parts limit found
-    found_end h =
-        let l = s.below in
-        let q : t ≡ limit = omega arith in
-        record { each = λ i. s.so_far i ∙ ap (λ (k : ℕ). ltb i k && (has i asked && parts i)) q }
+  module _ (found t : ℕ) (s : Picked asked parts t found) where
+    pub found_end : (limit : ℕ) → t ≤ limit → limit ≤ t → Picked asked parts limit found
+    found_end limit l h = let q : t ≡ limit = omega arith in subst (λ (k : ℕ). Picked asked parts k found) q s
 
     abbrev P : ℕ → Bool
     P i = has i asked && parts i
 
     was_found : (i : ℕ) → has i found ≡ true → (i < t) × (P i ≡ true)
     was_found i h =
-        let e = sym (s.so_far i) ∙ h in
+        let e = sym (s.each i) ∙ h in
         (ltb-true i t (and_left (ltb i t) (P i) e), and_right (ltb i t) (P i) e)
 
     module _ (small : asked < 2 ^ 32) (r : ℕ) (e : r ≡ cond (has t asked && parts t) (plus_below 32 found t) found) where
@@ -97,14 +90,14 @@ module _ (asked : ℕ) (parts : ℕ → Bool) (limit : ℕ) where
           let l = ltb-true i (t + 1) (and_left (ltb i (t + 1)) (P i) h) in
           let p = and_right (ltb i (t + 1)) (P i) h in
           ⊎_elim
-          (λ k. let w = s.so_far i ∙ and_of (ltb i t) (P i) (lt-ltb i t k) p in
+          (λ k. let w = s.each i ∙ and_of (ltb i t) (P i) (lt-ltb i t k) p in
           ⊎_elim (λ q. ap (has i) (one_more q) ∙ plus-within found t i w) (λ f. ap (has i) (no_more f) ∙ w) (bool? (P t)))
           (λ k. let q : i ≡ t = omega arith in
           ap (has i) (one_more (ap P (sym q) ∙ p)) ∙ subst (λ (j : ℕ). has j (plus found t) ≡ true) (sym q) (plus-has found t))
           (lt_or_le i t)
 
-      pub found_more : t < limit → FoundSoFar asked parts limit r (t + 1)
-      found_more l = record { below = omega arith; so_far = λ i. same_test (has i r) (ltb i (t + 1) && P i) (found_from i) (found_to i) }
+      pub found_more : Picked asked parts (t + 1) r
+      found_more = record { each = λ i. same_test (has i r) (ltb i (t + 1) && P i) (found_from i) (found_to i) }
 
 -- ---- the lowest offender of both rules
 
@@ -128,7 +121,7 @@ module _ (place : ℕ) (a : Assertion) (t : ℕ) where
   offending false k s h = absurd (⊎_elim false≢true false≢true h)
 
 module _ (labels : Labels) (place : ℕ) (a : Assertion) (parts : ℕ → Bool) (bare low end split t : ℕ)
-    (b : bare ≡ without labels.source labels.sink) (l : low ≡ lowest 32 (λ j. has j bare)) (m : end ≡ min low labels.limit)
+    (b : bare ≡ without labels.source labels.sink) (l : low ≡ lowest 32 (λ j. has j bare)) (m : end ≡ min labels.limit low)
     (p : Picked (bit_and labels.source labels.sink) parts end split)
     (e : t ≡ lowest 32 (λ j. has j (bit_or bare split))) where
   abbrev L : ℕ → Bool
@@ -167,14 +160,17 @@ module _ (labels : Labels) (place : ℕ) (a : Assertion) (parts : ℕ → Bool) 
       calm place a j (L j) (K j) (parts j) (sym (bare_at j) ∙ n.0)
       (sym (ap (λ (x : Bool). x && ((L j && K j) && parts j)) (lt-ltb j end low-enough)) ∙ sym (split_at j) ∙ n.1)
 
-  pub prot_past : labels.limit ≤ t → Accepted ≡ first_below labels.limit (prot_by labels place a parts)
+  prot_past : labels.limit ≤ t → Accepted ≡ first_below labels.limit (prot_by labels place a parts)
   prot_past h = sym (below_all labels.limit (prot_by labels place a parts) (λ j k. quiet j (le_trans k h) k))
 
-  pub prot_none : labels.source < 2 ^ 32 → 32 ≤ t → Accepted ≡ first_below labels.limit (prot_by labels place a parts)
+  prot_wide : labels.source < 2 ^ 32 → 32 ≤ t → Accepted ≡ first_below labels.limit (prot_by labels place a parts)
   unfolding prot_by
-  prot_none w h = sym (below_all labels.limit (prot_by labels place a parts) (λ j k. ⊎_elim
+  prot_wide w h = sym (below_all labels.limit (prot_by labels place a parts) (λ j k. ⊎_elim
       (λ g. quiet j (le_trans g h) k)
       (λ g. ap (λ (x : Bool). tested place a j x (K j) (parts j)) (has_past 32 labels.source j w g)) (lt_or_le j 32)))
+
+  pub prot_none : labels.source < 2 ^ 32 → (top : ℕ) → top ≡ min labels.limit 32 → top ≤ t → Accepted ≡ first_below labels.limit (prot_by labels place a parts)
+  prot_none w top q h = ⊎_elim (λ k. prot_wide w (omega arith)) prot_past (lt_or_le t labels.limit)
 
   there : t < 32 → prot_by labels place a parts t ≡ broken (cond (K t) 19 18) place a.sink t
   unfolding prot_by
@@ -183,8 +179,10 @@ module _ (labels : Labels) (place : ℕ) (a : Assertion) (parts : ℕ → Bool) 
       offending place a t (L t) (K t) (parts t) (⊎_elim (λ x. inl (sym (bare_at t) ∙ x))
       (λ x. inr (and_right (ltb t end) ((L t && K t) && parts t) (sym (split_at t) ∙ x))) (or_cases (has t bare) (has t split) found))
 
-  pub prot_found : t < 32 → t < labels.limit → (rule : ℕ) → rule ≡ cond (has t labels.sink) 19 18
+  pub prot_found : (top : ℕ) → top ≡ min labels.limit 32 → t < top → (rule : ℕ) → rule ≡ cond (has t labels.sink) 19 18
       → broken rule place a.sink t ≡ first_below labels.limit (prot_by labels place a parts)
-  prot_found h k rule q =
+  prot_found top g l rule q =
+      let h : t < 32 = omega arith in
+      let k : t < labels.limit = omega arith in
       ap (λ (n : ℕ). broken n place a.sink t) q
       ∙ sym (below_broken labels.limit (prot_by labels place a parts) t _ k (λ j g. quiet j g (lt_trans g k)) (there h))

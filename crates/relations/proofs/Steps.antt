@@ -11,6 +11,7 @@ use native.Mathlib.Omega.{arith}
 use lib.Dec.{eqb}
 use lib.Bits.{bit_and, and_le_l}
 use lib.ListN.{get_or}
+use denote.Bor.{Bor}
 use borrow.Author.Tests.{eqb-true, eq-eqb, not-true, not-false}
 use Rattle.lists.specs.Numbers.{any}
 use Rattle.lists.specs.Joins.{both, either}
@@ -26,7 +27,9 @@ use Rattle.route.specs.declared.Target.{Target}
 use Rattle.route.specs.declared.Targets.{Targets}
 use Rattle.route.specs.declared.Forks.{Forks}
 use Rattle.route.specs.Search.{in_mask, including, collect, only, meet, reach, is_way, ways, targets, widened, extended, arrives, detours, crosses, branches_cross, on_branches, fork_crosses, leads, any_in}
-use Rattle.route.specs.Lent.{laid_out}
+use Rattle.route.specs.declared.Layout.{Layout}
+use Rattle.route.specs.Lent.{laid_out, laid}
+use Rattle.relations.specs.declared.Search.{Search}
 use Rattle.route.proofs.Lent.{laid_form, laid_past}
 use Rattle.route.proofs.Sets.{meet_from}
 use Rattle.route.proofs.Steps.{not_included}
@@ -88,19 +91,27 @@ module _ (plan : Plan) (barred via : ℕ) (to : Targets) (x : ℕ) (v : Bool) (a
       sink = (k ∙ ap (widened to.sink x) (way to.sink.place b h)) i;
     }
 
-pub targets_none : (plan : Plan) (barred via S K : ℕ)
-    → ◌≡◌ {A = Targets} (record { source = record { place = S; ways = 0 }; sink = record { place = K; ways = 0 } }) (targets 0 plan barred via S K)
-unfolding targets ways collect
-targets_none plan barred via S K = refl
+-- What is sought while the loop has found the ways below n.
+abbrev pub seeking : Bor Layout → ℕ → ℕ → ℕ → ℕ → ℕ → Search
+seeking b barred via S K n = record { layout = b; barred = barred; to = targets n (laid b.now) barred via S K }
 
-pub targets_more : (plan : Plan) (barred via S K n : ℕ) (to r : Targets) → to ≡ targets n plan barred via S K → r ≡ extended plan barred via to n
-    → r ≡ targets (n + 1) plan barred via S K
-unfolding targets ways collect extended widened
-targets_more plan barred via S K n to r e h =
-    h ∙ ap (λ (u : Targets). extended plan barred via u n) e ∙ ap (λ (k : ℕ). targets k plan barred via S K) (sym (add-one n))
+module _ (b : Bor Layout) (barred via S K : ℕ) where
+  pub seeking_none : ◌≡◌ {A = Search}
+      (record { layout = b; barred = barred; to = record { source = record { place = S; ways = 0 }; sink = record { place = K; ways = 0 } } })
+      (seeking b barred via S K 0)
+  unfolding targets ways collect
+  seeking_none = refl
 
-pub targets_end : (plan : Plan) (barred via S K n : ℕ) (to : Targets) → n ≤ 64 → 64 ≤ n → to ≡ targets n plan barred via S K → to ≡ targets 64 plan barred via S K
-targets_end plan barred via S K n to l g e = let q : n ≡ 64 = omega arith in e ∙ ap (λ (k : ℕ). targets k plan barred via S K) q
+  pub seeking_more : (n : ℕ) (s : Search) (r : Targets) → s ≡ seeking b barred via S K n → r ≡ extended (laid s.layout.now) s.barred via s.to n
+      → ◌≡◌ {A = Search} (record { layout = s.layout; barred = s.barred; to = r }) (seeking b barred via S K (n + 1))
+  unfolding targets ways collect extended widened
+  seeking_more n s r e h =
+      ap (λ (to : Targets). record { layout = s.layout; barred = s.barred; to = to }) h
+      ∙ ap (λ (u : Search). record { layout = u.layout; barred = u.barred; to = extended (laid u.layout.now) u.barred via u.to n }) e
+      ∙ ap (seeking b barred via S K) (sym (add-one n))
+
+  pub seeking_end : (n : ℕ) (s : Search) → n ≤ 64 → 64 ≤ n → s ≡ seeking b barred via S K n → s ≡ seeking b barred via S K 64
+  seeking_end n s l g e = let q : n ≡ 64 = omega arith in e ∙ ap (seeking b barred via S K) q
 
 -- ---- the branches of a fork
 
@@ -110,7 +121,7 @@ pub crosses_is : (to : Targets) (direct passing : Bool) (m n : ℕ) (a b c d : B
 unfolding crosses arrives detours both either
 crosses_is to direct passing m n a b c d p q h k i = (direct && (p i && q i)) || (passing && ((h i && q i) || (p i && k i)))
 
-pub branches_cross_is : (plan : Plan) (barred : ℕ) (to : Targets) (direct passing : Bool) (y z m n : ℕ) (a b : Bool)
+branches_cross_is : (plan : Plan) (barred : ℕ) (to : Targets) (direct passing : Bool) (y z m n : ℕ) (a b : Bool)
     → m ≡ reach plan (in_mask barred) y → n ≡ reach plan (in_mask barred) z → a ≡ crosses to direct passing m n → b ≡ crosses to direct passing n m
     → (a || b) ≡ branches_cross plan barred to direct passing y z
 unfolding branches_cross either
@@ -125,11 +136,13 @@ module _ (first second : List ℕ) (barred : ℕ) (to : Targets) (forks : Forks)
   unfolding fork_crosses both
   fork_unreached e = sym (ap (crossing (laid_out first second)) (sym asked ∙ not-true v e))
 
-  pub fork_reached : not v ≡ false → x < 64 → (a b r : Bool) → a ≡ has x forks.direct → b ≡ has x forks.passing
-      → r ≡ branches_cross (laid_out first second) barred to a b (get_or first x 0) (get_or second x 0) → r ≡ fork_crosses (laid_out first second) barred to forks x
+  pub fork_reached : not v ≡ false → x < 64 → (a b : Bool) (m n : ℕ) (r s : Bool) → a ≡ has x forks.direct → b ≡ has x forks.passing
+      → m ≡ reach (laid_out first second) (in_mask barred) (get_or first x 0) → n ≡ reach (laid_out first second) (in_mask barred) (get_or second x 0)
+      → r ≡ crosses to a b m n → s ≡ crosses to a b n m → (r || s) ≡ fork_crosses (laid_out first second) barred to forks x
   unfolding fork_crosses both
-  fork_reached e l a b r h k w =
-      w ∙ ap₂ (λ (u s : Bool). branches_cross (laid_out first second) barred to u s (get_or first x 0) (get_or second x 0)) h k
+  fork_reached e l a b m n r s h k p q w y =
+      branches_cross_is (laid_out first second) barred to a b (get_or first x 0) (get_or second x 0) m n r s p q w y
+      ∙ ap₂ (λ (u s : Bool). branches_cross (laid_out first second) barred to u s (get_or first x 0) (get_or second x 0)) h k
       ∙ sym (ap (λ (form : Form). on_branches form (branches_cross (laid_out first second) barred to (has x forks.direct) (has x forks.passing))) (laid_form first second x l))
       ∙ sym (ap (crossing (laid_out first second)) (sym asked ∙ not-false v e))
 

@@ -5,10 +5,12 @@
 ghost use Rattle.std.specs.Prelude.{◌≡◌, ◌<◌};
 ghost use Rattle.lists.specs.Numbers.{any};
 ghost use Rattle.plan.specs.Plan.{at, successors};
-ghost use Rattle.route.specs.Search.{only, meet, widened, extended, targets, crosses, branches_cross, fork_crosses, leads, any_in, shares_over, splits_over};
-ghost use Rattle.route.specs.Lent.{laid_out};
+ghost use Rattle.route.specs.Search.{only, meet, widened, extended, targets, crosses, fork_crosses, leads, any_in, shares_over, splits_over};
+ghost use Rattle.route.specs.Lent.{laid};
 
-use route::{Forks, Target, Targets};
+use mask::Mask;
+use plan::Assertion;
+use route::{Forks, Layout, Target, Targets};
 
 // The template x alone.
 fn only(x: u8) -> u64
@@ -28,60 +30,10 @@ fn meet(m: u64, n: u64) -> bool
 fn widen(to: Target, x: u8, wanted: bool) -> Target
     ensures { result ≡ widened to x wanted }
 {
-    let place = to.place;
-    let ways = route::include(to.ways, x, wanted);
-    Target { place, ways }
-}
-
-// Both targets with template x as one more way, where it is one: one search, if it is one of the templates via.
-fn extend<'a>(
-    first: &'a [u8; 64],
-    second: &'a [u8; 64],
-    barred: u64,
-    via: u64,
-    to: Targets,
-    x: u8,
-) -> Targets
-    ensures { result ≡ extended (laid_out first.now second.now) barred via to x }
-{
-    if !mask::contains_u64(via, x) {
-        return to;
+    Target {
+        ways: route::include(to.ways, x, wanted),
+        ..to
     }
-    let m = route::search_from(first, second, x, barred);
-    let source = to.source;
-    let sink = to.sink;
-    let source = widen(source, x, mask::contains_u64(m, source.place));
-    let sink = widen(sink, x, mask::contains_u64(m, sink.place));
-    Targets { source, sink }
-}
-
-// The source and the sink as targets, each with all its ways.
-fn find_targets<'a>(
-    first: &'a [u8; 64],
-    second: &'a [u8; 64],
-    barred: u64,
-    via: u64,
-    source: u8,
-    sink: u8,
-) -> Targets
-    ensures { result ≡ targets 64 (laid_out first.now second.now) barred via source sink }
-{
-    let mut to = Targets {
-        source: Target {
-            place: source,
-            ways: 0,
-        },
-        sink: Target {
-            place: sink,
-            ways: 0,
-        },
-    };
-    let mut x: u8 = 0;
-    while x < 64 {
-        to = extend(first, second, barred, via, to, x);
-        x += 1;
-    }
-    to
 }
 
 // Whether one branch, which reaches m, leads to the source and the other, which reaches n, to the sink: by any routes
@@ -89,162 +41,143 @@ fn find_targets<'a>(
 fn crosses(to: Targets, direct: bool, passing: bool, m: u64, n: u64) -> bool
     ensures { result ≡ crosses to direct passing m n }
 {
-    let source = to.source;
-    let sink = to.sink;
-    let at_source = mask::contains_u64(m, source.place);
-    let at_sink = mask::contains_u64(n, sink.place);
-    let by_source = meet(m, source.ways);
-    let by_sink = meet(n, sink.ways);
+    let at_source = m.contains(to.source.place as u32);
+    let at_sink = n.contains(to.sink.place as u32);
+    let by_source = meet(m, to.source.ways);
+    let by_sink = meet(n, to.sink.ways);
     (direct & (at_source & at_sink)) | (passing & ((by_source & at_sink) | (at_source & by_sink)))
 }
 
-// Whether the branches y and z of a fork cross, in either assignment: two searches.
-fn branches_cross<'a>(
-    first: &'a [u8; 64],
-    second: &'a [u8; 64],
+// A layout without the templates that are barred, and what is sought in it.
+#[derive(Clone, Copy)]
+struct Search<'a> {
+    layout: &'a Layout,
     barred: u64,
     to: Targets,
-    direct: bool,
-    passing: bool,
-    y: u8,
-    z: u8,
-) -> bool
-    ensures { result ≡ branches_cross (laid_out first.now second.now) barred to direct passing y z }
-{
-    let m = route::search_from(first, second, y, barred);
-    let n = route::search_from(first, second, z, barred);
-    crosses(to, direct, passing, m, n) | crosses(to, direct, passing, n, m)
 }
 
-// Whether template x is a fork whose branches cross.
-fn fork_crosses<'a>(
-    first: &'a [u8; 64],
-    second: &'a [u8; 64],
-    barred: u64,
-    to: Targets,
-    forks: Forks,
-    x: u8,
-) -> bool
-    requires { x < 64 }
-    ensures { result ≡ fork_crosses (laid_out first.now second.now) barred to forks x }
-{
-    if !mask::contains_u64(forks.reached, x) {
-        return false;
+impl<'a> Search<'a> {
+    // Both targets with template x as one more way, where it is one: one search, if it is one of the templates via.
+    fn extend(&self, via: u64, x: u8) -> Targets
+        ensures { result ≡ extended (laid self.now.layout.now) self.now.barred via self.now.to x }
+    {
+        let to = self.to;
+        if !via.contains(x as u32) {
+            return to;
+        }
+        let m = self.layout.search_from(x, self.barred);
+        Targets {
+            source: widen(to.source, x, m.contains(to.source.place as u32)),
+            sink: widen(to.sink, x, m.contains(to.sink.place as u32)),
+        }
     }
-    let i = x as usize;
-    let direct = mask::contains_u64(forks.direct, x);
-    let passing = mask::contains_u64(forks.passing, x);
-    branches_cross(
-        first, second, barred, to, direct, passing, first[i], second[i],
-    )
-}
 
-// Whether the branches of some fork cross. Every fork is tried.
-fn some_fork_crosses<'a>(
-    first: &'a [u8; 64],
-    second: &'a [u8; 64],
-    barred: u64,
-    to: Targets,
-    forks: Forks,
-) -> bool
-    ensures { result ≡ any 64 (fork_crosses (laid_out first.now second.now) barred to forks) }
-{
-    let mut found = false;
-    let mut x: u8 = 0;
-    while x < 64 {
-        found = found | fork_crosses(first, second, barred, to, forks, x);
-        x += 1;
+    // For the source and the sink of an assertion, each with all its ways.
+    fn new(layout: &'a Layout, barred: u64, via: u64, a: Assertion) -> Search<'a>
+        ensures { result ≡ record { layout = layout.entry; barred = barred; to = targets 64 (laid layout.now) barred via a.source a.sink } }
+    {
+        let source = Target {
+            place: a.source,
+            ways: 0,
+        };
+        let sink = Target {
+            place: a.sink,
+            ways: 0,
+        };
+        let mut search = Search {
+            layout,
+            barred,
+            to: Targets { source, sink },
+        };
+        for x in 0..64u8 {
+            search.to = search.extend(via, x);
+        }
+        search
     }
-    found
-}
 
-// Whether routes from template y lead to the sink: one search.
-fn leads<'a>(
-    first: &'a [u8; 64],
-    second: &'a [u8; 64],
-    barred: u64,
-    to: Target,
-    direct: bool,
-    y: u8,
-) -> bool
-    ensures { result ≡ leads (laid_out first.now second.now) barred to direct y }
-{
-    let m = route::search_from(first, second, y, barred);
-    (direct & mask::contains_u64(m, to.place)) | meet(m, to.ways)
-}
-
-// Whether routes from some successor of template x lead to the sink. Every successor is tried.
-fn some_successor_leads<'a>(
-    first: &'a [u8; 64],
-    second: &'a [u8; 64],
-    barred: u64,
-    to: Target,
-    direct: bool,
-    x: u8,
-) -> bool
-    ensures { result ≡ any_in (leads (laid_out first.now second.now) barred to direct) (successors (at (laid_out first.now second.now) x).form) }
-{
-    if 64 <= x {
-        return false;
+    // Whether template x is a fork whose branches cross, in either assignment: two searches.
+    fn fork_crosses(&self, forks: Forks, x: u8) -> bool
+        requires { x < 64 }
+        ensures { result ≡ fork_crosses (laid self.now.layout.now) self.now.barred self.now.to forks x }
+    {
+        if !forks.reached.contains(x as u32) {
+            return false;
+        }
+        let i = x as usize;
+        let direct = forks.direct.contains(x as u32);
+        let passing = forks.passing.contains(x as u32);
+        let m = self.layout.search_from(self.layout.first[i], self.barred);
+        let n = self.layout.search_from(self.layout.second[i], self.barred);
+        crosses(self.to, direct, passing, m, n) | crosses(self.to, direct, passing, n, m)
     }
-    let i = x as usize;
-    let one = leads(first, second, barred, to, direct, first[i]);
-    let other = leads(first, second, barred, to, direct, second[i]);
-    one | other
+
+    // Whether the branches of some fork cross. Every fork is tried.
+    fn some_fork_crosses(&self, forks: Forks) -> bool
+        ensures { result ≡ any 64 (fork_crosses (laid self.now.layout.now) self.now.barred self.now.to forks) }
+    {
+        let mut found = false;
+        for x in 0..64u8 {
+            found |= self.fork_crosses(forks, x);
+        }
+        found
+    }
+
+    // Whether routes from template y lead to the sink: one search.
+    fn leads(&self, direct: bool, y: u8) -> bool
+        ensures { result ≡ leads (laid self.now.layout.now) self.now.barred self.now.to.sink direct y }
+    {
+        let sink = self.to.sink;
+        let m = self.layout.search_from(y, self.barred);
+        (direct & m.contains(sink.place as u32)) | meet(m, sink.ways)
+    }
+
+    // Whether routes from some successor of template x lead to the sink. Every successor is tried.
+    fn some_successor_leads(&self, direct: bool, x: u8) -> bool
+        ensures { result ≡ any_in (leads (laid self.now.layout.now) self.now.barred self.now.to.sink direct) (successors (at (laid self.now.layout.now) x).form) }
+    {
+        if 64 <= x {
+            return false;
+        }
+        let i = x as usize;
+        let one = self.leads(direct, self.layout.first[i]);
+        let other = self.leads(direct, self.layout.second[i]);
+        one | other
+    }
 }
 
 // Document 01's Joined (t, S, K, A), where creators is C: C barred, by way of A. No way is needed at a fork, nor from the
 // source, where the root reaches it without A. The searches: the root; the root, A barred; and, C barred, A, both branches
 // of every fork, every successor of the source.
-pub fn shares_tag<'a>(
-    first: &'a [u8; 64],
-    second: &'a [u8; 64],
-    forks: u64,
-    creators: u64,
-    source: u8,
-    sink: u8,
-    anc: u8,
-) -> bool
-    ensures { result ≡ shares_over (laid_out first.now second.now) forks creators source sink anc }
+pub fn shares_tag(layout: &Layout, creators: u64, a: Assertion) -> bool
+    ensures { result ≡ shares_over (laid layout.now) layout.now.forks creators a.source a.sink a.anc }
 {
-    let way = only(anc);
-    let root = route::search_from(first, second, 0, 0);
-    let lacking = route::search_from(first, second, 0, way);
-    let to = find_targets(first, second, creators, way, source, sink);
-    let tried = Forks {
-        reached: forks,
+    let way = only(a.anc);
+    let root = layout.search_from(0, 0);
+    let lacking = layout.search_from(0, way);
+    let search = Search::new(layout, creators, way, a);
+    let at_fork = search.some_fork_crosses(Forks {
+        reached: layout.forks,
         direct: lacking,
         passing: root,
-    };
-    let at_fork = some_fork_crosses(first, second, creators, to, tried);
-    let target = to.sink;
-    let free = mask::contains_u64(lacking, source);
-    let down = some_successor_leads(first, second, creators, target, free, source);
-    at_fork | (mask::contains_u64(root, source) & down)
+    });
+    let free = lacking.contains(a.source as u32);
+    let down = search.some_successor_leads(free, a.source);
+    at_fork | (root.contains(a.source as u32) & down)
 }
 
 // Document 01's Parted (t, S, K, A), where creators is C: A barred, by way of C, at the forks that are reached from A. The
 // searches: the root; A; and, A barred, C if there is one and both branches of every fork.
-pub fn splits_tag<'a>(
-    first: &'a [u8; 64],
-    second: &'a [u8; 64],
-    forks: u64,
-    creators: u64,
-    source: u8,
-    sink: u8,
-    anc: u8,
-) -> bool
-    ensures { result ≡ splits_over (laid_out first.now second.now) forks creators source sink anc }
+pub fn splits_tag(layout: &Layout, creators: u64, a: Assertion) -> bool
+    ensures { result ≡ splits_over (laid layout.now) layout.now.forks creators a.source a.sink a.anc }
 {
-    let barred = only(anc);
-    let root = route::search_from(first, second, 0, 0);
-    let under = route::search_from(first, second, anc, 0);
-    let to = find_targets(first, second, barred, creators, source, sink);
-    let tried = Forks {
-        reached: forks,
+    let barred = only(a.anc);
+    let root = layout.search_from(0, 0);
+    let under = layout.search_from(a.anc, 0);
+    let search = Search::new(layout, barred, creators, a);
+    let at_fork = search.some_fork_crosses(Forks {
+        reached: layout.forks,
         direct: 0,
         passing: under,
-    };
-    let at_fork = some_fork_crosses(first, second, barred, to, tried);
-    mask::contains_u64(root, anc) & at_fork
+    });
+    root.contains(a.anc as u32) & at_fork
 }

@@ -6,6 +6,7 @@ use Rattle.lists.specs.Numbers.{tabulate}
 use Rattle.plan.specs.declared.Form.TheVariants.{Both}
 use Rattle.plan.specs.declared.Template.{Template}
 use Rattle.plan.specs.declared.Plan.{Plan}
+use Rattle.route.specs.declared.Layout.{Layout}
 
 -- What is lent as a plan of its own: each template is a `both`.
 abbrev pub laid_template : ℕ → ℕ → Template
@@ -14,3 +15,6 @@ laid_template Y Z = record { form = Both Y Z; lab = 0; pos = 0; neg = 0; creates
 unfoldable pub laid_out : List ℕ → List ℕ → Plan
 laid_out first second =
     record { count = 64; identifiers = 0; templates = tabulate 64 (λ X. laid_template (get_or first X 0) (get_or second X 0)) }
+
+abbrev pub laid : Layout → Plan
+laid l = laid_out l.first l.second

@@ -1,10 +1,21 @@
-// The search over a plan that is lent as the successors of its templates: by value it would be copied at each template that is
-// entered. Crate layout lays a plan out so; crate relations asks both tag relations by these searches.
+// The search over a plan that is laid out and lent. Crate layout lays a plan out; crate relations asks both tag relations by
+// these searches.
 #![tactic(auto)]
 
 ghost use Rattle.std.specs.Prelude.{◌≡◌};
 ghost use Rattle.route.specs.Search.{in_mask, including, is_open, enter, reach};
-ghost use Rattle.route.specs.Lent.{laid_out};
+ghost use Rattle.route.specs.Lent.{laid};
+
+use mask::Mask;
+
+// A plan laid out: the successors of each template, the masks of what each creates, and the forks.
+#[derive(Clone, Copy)]
+pub struct Layout {
+    pub first: [u8; 64],
+    pub second: [u8; 64],
+    pub creates: [u32; 64],
+    pub forks: u64,
+}
 
 // What crate relations hands on between its searches, here because the tests of Search.antt name it: a template to be
 // reached, and the mask of the ways that lead to it.
@@ -34,7 +45,7 @@ pub fn include(m: u64, x: u8, wanted: bool) -> u64
     ensures { result ≡ including m x wanted }
 {
     if wanted {
-        return mask::insert_u64(m, x);
+        return m.insert(x as u32);
     }
     m
 }
@@ -43,25 +54,27 @@ pub fn include(m: u64, x: u8, wanted: bool) -> u64
 fn is_open(x: u8, barred: u64, seen: u64) -> bool
     ensures { result ≡ is_open (in_mask barred) seen x }
 {
-    (x < 64) & (!mask::contains_u64(seen, x) & !mask::contains_u64(barred, x))
+    (x < 64) & (!seen.contains(x as u32) & !barred.contains(x as u32))
 }
 
-// Depth first: what was seen, with template x, if it is open, and what is entered from its successors.
-fn enter<'a>(first: &'a [u8; 64], second: &'a [u8; 64], x: u8, barred: u64, seen: u64) -> u64
-    ensures { result ≡ enter (laid_out first.now second.now) (in_mask barred) 64 seen x }
-{
-    if !is_open(x, barred, seen) {
-        return seen;
+impl Layout {
+    // Depth first: what was seen, with template x, if it is open, and what is entered from its successors.
+    fn enter(&self, x: u8, barred: u64, seen: u64) -> u64
+        ensures { result ≡ enter (laid self.now) (in_mask barred) 64 seen x }
+    {
+        if !is_open(x, barred, seen) {
+            return seen;
+        }
+        let here = seen.insert(x as u32);
+        let i = x as usize;
+        let after = self.enter(self.first[i], barred, here);
+        self.enter(self.second[i], barred, after)
     }
-    let here = mask::insert_u64(seen, x);
-    let i = x as usize;
-    let after = enter(first, second, first[i], barred, here);
-    enter(first, second, second[i], barred, after)
-}
 
-// The templates that routes from start reach without a barred one.
-pub fn search_from<'a>(first: &'a [u8; 64], second: &'a [u8; 64], start: u8, barred: u64) -> u64
-    ensures { result ≡ reach (laid_out first.now second.now) (in_mask barred) start }
-{
-    enter(first, second, start, barred, 0)
+    // The templates that routes from start reach without a barred one.
+    pub fn search_from(&self, start: u8, barred: u64) -> u64
+        ensures { result ≡ reach (laid self.now) (in_mask barred) start }
+    {
+        self.enter(start, barred, 0)
+    }
 }

@@ -8,11 +8,12 @@ use mathlib.Core.List.{List, [], ◌∷◌, ◌++◌}
 use native.Mathlib.Nat.{not-suc-le-zero, le_of_suc-le-suc, zero-lt-suc, eq-or-lt_of_le}
 use native.Mathlib.Numerals.{add-one}
 use native.Mathlib.Omega.{arith}
+use Rattle.std.specs.Prelude.{Result, Ok, Err, IsErrAnd}
 use Rattle.lists.proofs.Tests.{lt_or_le}
 use Rattle.plan.specs.Plan.{Among}
 use Rattle.rules.specs.Judge.{Fault, Breach, Verdict, Accepted, Broken, Unread, or_else, first_below, first_in}
 use Rattle.rules.specs.Rules.{Each}
-use Rattle.rules.specs.Broken.{accepted}
+use Rattle.rules.specs.Broken.{accepted, answered}
 
 -- ---- telling verdicts apart
 
@@ -97,6 +98,12 @@ or_second v w e = sym (ap (λ (x : Verdict). or_else x w) e)
 pub or_later : (v w : Verdict) (b : Breach) → v ≡ Accepted → w ≡ Broken b → or_else v w ≡ Broken b
 or_later v w b e h = sym (or_second v w e) ∙ h
 
+pub or_last : (v : Verdict) → or_else v Accepted ≡ v
+unfolding or_else
+or_last Accepted = refl
+or_last (Broken b) = refl
+or_last (Unread f) = refl
+
 -- The code's test.
 pub accepted_is : (v : Verdict) → accepted v ≡ true → v ≡ Accepted
 unfolding accepted
@@ -112,6 +119,18 @@ unfolding accepted or_else
 or_stopped Accepted w a t e = absurd (false≢true (sym e ∙ t))
 or_stopped (Broken b) w a t e = refl
 or_stopped (Unread f) w a t e = refl
+
+-- What is handed on with `?`, s: it stops at the breach of r, and else goes on to the second.
+pub handed : (s : Result (Unit {0}) Breach) (b : Breach) → IsErrAnd s (λ e. e ≡ b) → answered s ≡ Broken b
+handed (Ok u) b h = absurd h
+handed (Err e) b h = ap Broken h
+
+pub or_stops : (r : Result (Unit {0}) Breach) (v w : Verdict) (b : Breach) → answered r ≡ v → r ≡ Err b → (s : Result (Unit {0}) Breach)
+    → IsErrAnd s (λ e. e ≡ b) → answered s ≡ or_else v w
+or_stops r v w b e h s k = handed s b k ∙ sym (or_first v w b (sym e ∙ ap answered h))
+
+pub or_goes : (r : Result (Unit {0}) Breach) (v w : Verdict) (u : Unit {0}) → answered r ≡ v → r ≡ Ok u → w ≡ or_else v w
+or_goes r v w u e h = or_second v w (sym e ∙ ap answered h)
 
 -- ---- numbers rising
 
@@ -171,14 +190,15 @@ first_at (suc n) f (suc i) h a e =
     first_at n (λ i. f (suc i)) i (le_of_suc-le-suc h) (λ j l. a (suc j) (suc-le-suc l)) e
     ∙ or_second (f zero) (first_below n (λ i. f (suc i))) (a zero (zero-lt-suc i))
 
--- It leaves: v at i is not accepted.
-pub below_leaves : (n : ℕ) (f : ℕ → Verdict) (i : ℕ) (v : Verdict) → i < n → first_below i f ≡ Accepted → v ≡ f i → (a : Bool) → a ≡ accepted v → a ≡ false → v ≡ first_below n f
-below_leaves n f i v h p e a t q = e ∙ first_at n f i h (below_each i f p) (ap accepted (sym e) ∙ sym t ∙ q)
-
 -- Broken at i, and accepted before: so is the walk.
 pub below_broken : (n : ℕ) (f : ℕ → Verdict) (i : ℕ) (b : Breach) → i < n → ((j : ℕ) → j < i → f j ≡ Accepted) → f i ≡ Broken b → first_below n f ≡ Broken b
 unfolding accepted
 below_broken n f i b h a e = sym (first_at n f i h a (ap accepted e)) ∙ e
+
+-- It leaves there, with r's breach.
+pub below_breaks : (n : ℕ) (f : ℕ → Verdict) (i : ℕ) → i < n → first_below i f ≡ Accepted → (r : Result (Unit {0}) Breach) (b : Breach) → answered r ≡ f i
+    → r ≡ Err b → (s : Result (Unit {0}) Breach) → IsErrAnd s (λ e. e ≡ b) → answered s ≡ first_below n f
+below_breaks n f i l p r b e h s k = handed s b k ∙ sym (below_broken n f i b l (below_each i f p) (sym e ∙ ap answered h))
 
 -- It ran to the end.
 pub below_end : (n : ℕ) (f : ℕ → Verdict) (i : ℕ) → i ≤ n → n ≤ i → first_below i f ≡ Accepted → Accepted ≡ first_below n f

@@ -1,7 +1,7 @@
 -- What a verdict of broken says (document 01, "The judge"): the rule that it names is broken at the figures that it
 -- gives, and every rule before it in the document's order holds. "Broken gives the first broken rule."
 -- Not to be believed beside Judge.antt: the law `broken_first` says that the two are the same.
-use Rattle.std.specs.Prelude.{ℕ, ◌<◌, ◌≡◌, Bool, true, false, cond, List, ◌∷◌, ◌++◌}
+use Rattle.std.specs.Prelude.{ℕ, ◌<◌, ◌≡◌, Bool, true, false, cond, List, ◌∷◌, ◌++◌, Result, Ok, Err}
 use Rattle.mask.specs.Mask.{has}
 use Rattle.plan.specs.declared.Plan.{Plan}
 use Rattle.plan.specs.declared.Kind.{Kind}
@@ -100,3 +100,8 @@ unfoldable pub accepted : Verdict → Bool
 accepted Accepted = true
 accepted (Broken b) = false
 accepted (Unread f) = false
+
+-- What the code hands on from rule to rule: nothing where all is accepted, else the breach.
+abbrev pub answered : Result (Unit {0}) Breach → Verdict
+answered (Ok u) = Accepted
+answered (Err b) = Broken b

@@ -3,17 +3,17 @@
 
 ghost use Rattle.std.specs.Prelude.{◌≡◌};
 ghost use Rattle.rules.specs.Judge.{or_else, is_edge_rule};
-ghost use Rattle.rules.specs.Broken.{accepted};
+ghost use Rattle.rules.specs.Broken.{accepted, answered};
 
 // Which of the two texts.
-#[derive(Clone, Copy)]
+#[derive(Clone, Copy, PartialEq, Eq)]
 pub enum Text {
     Plan,
     Policy,
 }
 
 // A text that was not read: document 01's text, number and line.
-#[derive(Clone, Copy)]
+#[derive(Clone, Copy, PartialEq, Eq)]
 pub struct Fault {
     pub text: Text,
     pub number: u8,
@@ -21,7 +21,7 @@ pub struct Fault {
 }
 
 // The first broken rule, with document 01's first, second and identifier.
-#[derive(Clone, Copy)]
+#[derive(Clone, Copy, PartialEq, Eq)]
 pub struct Breach {
     pub rule: u8,
     pub first: u8,
@@ -29,15 +29,27 @@ pub struct Breach {
     pub identifier: u8,
 }
 
-#[derive(Clone, Copy)]
+#[derive(Clone, Copy, PartialEq, Eq)]
 pub enum Verdict {
     Accepted,
     Broken(Breach),
     Unread(Fault),
 }
 
+// Accepted, where no rule is broken.
+impl From<Result<(), Breach>> for Verdict {
+    ghost from_gives = { λ r v. v ≡ answered r };
+
+    fn from(r: Result<(), Breach>) -> Verdict {
+        match r {
+            Ok(()) => Verdict::Accepted,
+            Err(breach) => Verdict::Broken(breach),
+        }
+    }
+}
+
 // The bytes from start to end of one of the texts.
-#[derive(Clone, Copy)]
+#[derive(Clone, Copy, PartialEq, Eq)]
 pub struct Part {
     pub text: Text,
     pub start: usize,
@@ -47,26 +59,22 @@ pub struct Part {
 pub fn is_accepted(v: Verdict) -> bool
     ensures { result ≡ accepted v }
 {
-    match v {
-        Verdict::Accepted => true,
-        Verdict::Broken(_) => false,
-        Verdict::Unread(_) => false,
-    }
+    matches!(v, Verdict::Accepted)
 }
 
-// The first of two that is not accepted.
+// The first of two that is not accepted: of verdicts what `?` is of results.
 pub fn or_else(v: Verdict, later: Verdict) -> Verdict
     ensures { result ≡ or_else v later }
 {
-    if is_accepted(v) {
-        return later;
+    match v {
+        Verdict::Accepted => later,
+        _ => v,
     }
-    v
 }
 
 // Whether a rule is one of those that are asked on an edge.
 pub fn is_edge_rule(rule: u8) -> bool
     ensures { result ≡ is_edge_rule rule }
 {
-    (rule == 12) | (rule == 13) | (rule == 14) | (rule == 15) | (rule == 16)
+    matches!(rule, 12..=16)
 }

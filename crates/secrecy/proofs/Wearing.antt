@@ -2,12 +2,12 @@
 -- turns of the loop over the templates.
 use Prim.Native.Nat.{ℕ, ◌+◌, ◌≤◌, ◌<◌, min}
 use mathlib.Core.Path.{◌≡◌, refl, sym, ap, ◌∙◌}
+use mathlib.Core.Logic.{◌⊎◌, inl, inr}
 use mathlib.Core.Bool.{Bool, true, false, not, cond, ◌&&◌, ◌||◌, and_assoc, or-true}
 use native.Mathlib.Omega.{arith}
-use mir.Syntax.{w8}
-use mir.Val.{Fits}
 use lib.Bits.{bit_or}
 use lib.ListN.{length, get_or}
+use Rattle.lists.proofs.Tests.{lt_or_le}
 use Rattle.lists.specs.Numbers.{every}
 use Rattle.lists.proofs.Every.{every_none, every_acc, every_capped}
 use Rattle.mask.specs.Mask.{has, without}
@@ -46,49 +46,35 @@ keep_less kept neg r d b e f h = h ∙ sym (ap (λ (x : Bool). cond x kept (with
 
 -- ---- all templates
 
--- What the loop keeps.
-pub record KeptSoFar (plan : Plan) (worn declass n kept x : ℕ) : Type 0 where
-  pub whole : n ≡ min plan.count 64
-  pub below : x ≤ n
-  pub so_far : (t : ℕ) → has t kept ≡ (has t worn && every x (keeps plan declass t))
+abbrev pub KeptSoFar : Plan → ℕ → ℕ → ℕ → ℕ → Type 0
+KeptSoFar plan worn declass kept x = (t : ℕ) → has t kept ≡ (has t worn && every x (keeps plan declass t))
 
 module _ (plan : Plan) (worn declass : ℕ) where
-  pub kept_start : (n : ℕ) → n ≡ min plan.count 64 → KeptSoFar plan worn declass n worn 0
-  kept_start n e = record {
-    whole = e;
-    below = omega arith;
-    so_far = λ t. kept_all (has t worn) ∙ sym (ap (λ (b : Bool). has t worn && b) (every_none (keeps plan declass t)));
-  }
+  pub kept_start : KeptSoFar plan worn declass worn 0
+  kept_start t = kept_all (has t worn) ∙ sym (ap (λ (b : Bool). has t worn && b) (every_none (keeps plan declass t)))
 
-  module _ (n kept x : ℕ) (s : KeptSoFar plan worn declass n kept x) where
-    pub kept_room : x < n → Fits w8 (x + 1)
-    kept_room h = let l = s.whole in omega arith
+  pub kept_more : (kept x r : ℕ) → KeptSoFar plan worn declass kept x → r ≡ cond (has x declass) kept (without kept (get_or plan.templates x blank).neg)
+      → KeptSoFar plan worn declass r (x + 1)
+  unfolding keeps at
+  kept_more kept x r s e t =
+      ap (has t) e ∙ keep_one kept (get_or plan.templates x blank).neg t (has x declass) ∙ ap (λ (b : Bool). b && keeps plan declass t x) (s t)
+      ∙ and_assoc (has t worn) (every x (keeps plan declass t)) (keeps plan declass t x)
+      ∙ ap (λ (b : Bool). has t worn && b) (every_acc x (keeps plan declass t) (every x (keeps plan declass t)) refl)
 
-    pub kept_place : x < n → x < 64
-    kept_place h = let l = s.whole in omega arith
+  -- Past the places no template removes anything.
+  kept_past : length plan.templates ≡ 64 → (t X : ℕ) → 64 ≤ X → keeps plan declass t X ≡ true
+  unfolding keeps
+  kept_past full t X h =
+      ap (λ (a : Template). has X declass || not (has t a.neg)) (template_past plan full X h)
+      ∙ ap (λ (b : Bool). has X declass || not b) (has_none t) ∙ or-true (has X declass)
 
-    pub kept_more : x < n → (r : ℕ) → r ≡ cond (has x declass) kept (without kept (get_or plan.templates x blank).neg) → KeptSoFar plan worn declass n r (x + 1)
-    unfolding keeps at
-    kept_more l r e = record {
-      whole = s.whole;
-      below = omega arith;
-      so_far = λ t.
-          ap (has t) e ∙ keep_one kept (get_or plan.templates x blank).neg t (has x declass) ∙ ap (λ (b : Bool). b && keeps plan declass t x) (s.so_far t)
-          ∙ and_assoc (has t worn) (every x (keeps plan declass t)) (keeps plan declass t x)
-          ∙ ap (λ (b : Bool). has t worn && b) (every_acc x (keeps plan declass t) (every x (keeps plan declass t)) refl);
-    }
-
-    -- Past the places no template removes anything.
-    module _ (full : length plan.templates ≡ 64) where
-      kept_past : (t X : ℕ) → 64 ≤ X → keeps plan declass t X ≡ true
-      unfolding keeps
-      kept_past t X h =
-          ap (λ (a : Template). has X declass || not (has t a.neg)) (template_past plan full X h)
-          ∙ ap (λ (b : Bool). has X declass || not b) (has_none t) ∙ or-true (has X declass)
-
-      pub kept_end : n ≤ x → (t : ℕ) → has t kept ≡ (has t worn && every plan.count (keeps plan declass t))
-      kept_end h t =
-          let q : x ≡ min plan.count 64 = omega (arith, s.whole, s.below) in
-          s.so_far t
-          ∙ ap (λ (b : Bool). has t worn && b)
-          (ap (λ (k : ℕ). every k (keeps plan declass t)) q ∙ every_capped plan.count 64 (keeps plan declass t) (kept_past t))
+  -- The row of templates was read, unless there is none.
+  pub kept_end : (kept x n : ℕ) → KeptSoFar plan worn declass kept x → (0 < x → length plan.templates ≡ 64) → n ≡ min plan.count 64 → x ≤ n → n ≤ x
+      → (t : ℕ) → has t kept ≡ (has t worn && every plan.count (keeps plan declass t))
+  kept_end kept x n s full e l h t = s t ∙ ap (λ (b : Bool). has t worn && b) (whole (lt_or_le 0 x))
+    where
+      whole : (0 < x) ⊎ (x ≤ 0) → every x (keeps plan declass t) ≡ every plan.count (keeps plan declass t)
+      whole (inl some) =
+          let q : x ≡ min plan.count 64 = omega arith in
+          ap (λ (k : ℕ). every k (keeps plan declass t)) q ∙ every_capped plan.count 64 (keeps plan declass t) (kept_past (full some) t)
+      whole (inr none) = let q : x ≡ plan.count = omega arith in ap (λ (k : ℕ). every k (keeps plan declass t)) q

@@ -14,21 +14,14 @@ pub fn show_verdict<'a>(plan: &'a [u8], policy: &'a [u8], verdict: Verdict) -> &
     ensures place { result.ref_ptr ≡ lying_in (located verdict plan.now policy.now) plan.now policy.now plan.entry.ref_ptr policy.entry.ref_ptr }
 {
     let place = locating::locate_verdict(plan, policy, verdict);
-    let text = place.text;
-    let start = place.start;
-    let end = place.end;
-    match text {
-        Text::Plan => {
-            return scan::part(plan, start, end);
-        }
-        Text::Policy => {
-            return scan::part(policy, start, end);
-        }
+    match place.text {
+        Text::Plan => scan::part(plan, place.start, place.end),
+        Text::Policy => scan::part(policy, place.start, place.end),
     }
 }
 
 // Showing judges the texts: where the part lies,
-pub fn locate<'a>(plan: &'a [u8], policy: &'a [u8]) -> Part
+pub fn locate(plan: &[u8], policy: &[u8]) -> Part
     ensures { result ≡ locate plan.now policy.now }
 {
     locating::locate_verdict(plan, policy, verdict::judge(plan, policy))

@@ -1,8 +1,8 @@
 -- The ways through the judge, as the code meets them: each callee's answer is a variable.
 use Prim.Native.Nat.{ℕ}
 use mathlib.Core.Path.{◌≡◌, sym, ap, subst, ◌∙◌}
-use mathlib.Core.Bool.{Bool, true, false}
 use mathlib.Core.List.{List}
+use Rattle.std.specs.Prelude.{Result, Ok, Err, IsErrAnd}
 use Rattle.plan.specs.declared.Plan.{Plan}
 use Rattle.plan.specs.declared.Policy.{Policy}
 use Rattle.plan.specs.Range.{InRange}
@@ -14,33 +14,33 @@ use Rattle.text.specs.declared.PolicyRead.{PolicyRead}
 use Rattle.text.specs.Reading.{read_plan, read_policy}
 use Rattle.reader.proofs.Range.{plan_in_range}
 use Rattle.rules.specs.declared.Text.TheVariants.{Plan as PlanText, Policy as PolicyText}
+use Rattle.rules.specs.declared.Breach.{Breach}
 use Rattle.rules.specs.declared.Verdict.{Verdict}
 use Rattle.rules.specs.Judge.{or_else, check11, check_edges, check_assertions, judge_read, after_reading, judge}
-use Rattle.rules.specs.Broken.{accepted}
-use Rattle.rules.proofs.Walk.{or_passed, or_stopped}
+use Rattle.rules.specs.Broken.{answered}
+use Rattle.rules.proofs.Walk.{or_stops, or_goes}
 use Rattle.verdict.specs.Over.{unread, judge_over}
 
 -- ---- what was read
 
-module _ (plan : Plan) (policy : Policy) (v : Verdict) (e : v ≡ check11 plan) (a : Bool) (q : a ≡ accepted v) where
+module _ (plan : Plan) (policy : Policy) (v : Result (Unit {0}) Breach) (e : answered v ≡ check11 plan) where
   abbrev later : Verdict
   later = or_else (check_edges plan) (check_assertions plan policy)
 
-  pub stopped_11 : a ≡ false → v ≡ judge_read plan policy
+  pub stopped_11 : (b : Breach) → v ≡ Err b → (s : Result (Unit {0}) Breach) → IsErrAnd s (λ x. x ≡ b) → answered s ≡ judge_read plan policy
   unfolding judge_read
-  stopped_11 f = or_stopped v later a q f ∙ ap (λ (x : Verdict). or_else x later) e
+  stopped_11 b h s k = or_stops v (check11 plan) later b e h s k
 
-  module _ (f : a ≡ true) (w : Verdict) (h : w ≡ check_edges plan) (b : Bool) (k : b ≡ accepted w) where
+  module _ (u : Unit {0}) (f : v ≡ Ok u) (w : Result (Unit {0}) Breach) (h : answered w ≡ check_edges plan) where
     passed_11 : later ≡ judge_read plan policy
     unfolding judge_read
-    passed_11 = or_passed v later a q f ∙ ap (λ (x : Verdict). or_else x later) e
+    passed_11 = or_goes v (check11 plan) later u e f
 
-    pub stopped_edges : b ≡ false → w ≡ judge_read plan policy
-    stopped_edges g = or_stopped w (check_assertions plan policy) b k g ∙ ap (λ (x : Verdict). or_else x (check_assertions plan policy)) h ∙ passed_11
+    pub stopped_edges : (b : Breach) → w ≡ Err b → (s : Result (Unit {0}) Breach) → IsErrAnd s (λ x. x ≡ b) → answered s ≡ judge_read plan policy
+    stopped_edges b g s k = or_stops w (check_edges plan) (check_assertions plan policy) b h g s k ∙ passed_11
 
-    pub passed_edges : b ≡ true → (r : Verdict) → r ≡ check_assertions plan policy → r ≡ judge_read plan policy
-    passed_edges g r m =
-        m ∙ or_passed w (check_assertions plan policy) b k g ∙ ap (λ (x : Verdict). or_else x (check_assertions plan policy)) h ∙ passed_11
+    pub passed_edges : (u : Unit {0}) → w ≡ Ok u → (r : Result (Unit {0}) Breach) → answered r ≡ check_assertions plan policy → answered r ≡ judge_read plan policy
+    passed_edges u g r m = m ∙ or_goes w (check_edges plan) (check_assertions plan policy) u h g ∙ passed_11
 
 -- ---- the policy
 
@@ -51,9 +51,10 @@ module _ (plan : Plan) (text : List ℕ) (p : PolicyRead) (e : p ≡ read_policy
       ap (λ (x : PolicyRead). after_reading PolicyText x.answer (judge_read plan x.policy)) (sym e)
       ∙ ap (λ (x : Reading). after_reading PolicyText x (judge_read plan p.policy)) h
 
-  pub policy_complete : p.answer ≡ Complete → (v : Verdict) → v ≡ judge_read plan p.policy → v ≡ judge_over plan text
+  pub policy_complete : p.answer ≡ Complete → (r : Result (Unit {0}) Breach) → answered r ≡ judge_read plan p.policy → (v : Verdict) → v ≡ answered r
+      → v ≡ judge_over plan text
   unfolding after_reading
-  policy_complete h v k = k ∙ sym (over Complete h)
+  policy_complete h r k v q = q ∙ k ∙ sym (over Complete h)
 
   pub policy_refused : (r : Refusal) → p.answer ≡ Refused r → (v : Verdict) → v ≡ unread PolicyText r → v ≡ judge_over plan text
   unfolding after_reading unread

@@ -4,24 +4,19 @@
 ghost use Rattle.std.specs.Prelude.{◌≡◌};
 ghost use Rattle.plan.specs.Range.{InRange};
 ghost use Rattle.rules.specs.Judge.{judge_read, judge};
+ghost use Rattle.rules.specs.Broken.{answered};
 ghost use Rattle.verdict.specs.Over.{unread, judge_over};
 
 use plan::{Plan, Policy};
-use rules::{Fault, Text, Verdict};
+use rules::{Breach, Fault, Text, Verdict};
 use text::{Reading, Refusal};
 
 // 11, then the edges, then the assertions.
-fn judge_read(plan: Plan, policy: Policy) -> Verdict
-    ensures { result ≡ judge_read plan policy }
+fn judge_read(plan: &Plan, policy: &Policy) -> Result<(), Breach>
+    ensures { answered result ≡ judge_read plan.now policy.now }
 {
-    let v = creation::check_11(plan);
-    if !rules::is_accepted(v) {
-        return v;
-    }
-    let w = edges::check_edges(plan);
-    if !rules::is_accepted(w) {
-        return w;
-    }
+    creation::check_11(plan)?;
+    edges::check_edges(plan)?;
     assertions::check_assertions(plan, policy)
 }
 
@@ -37,28 +32,28 @@ fn unread(text: Text, r: Refusal) -> Verdict
 }
 
 // The policy text over a plan that was read.
-fn judge_over(plan: Plan, policy: &[u8]) -> Verdict
-    requires { InRange plan }
-    ensures { result ≡ judge_over plan policy.now }
+fn judge_over(plan: &Plan, policy: &[u8]) -> Verdict
+    requires { InRange plan.now }
+    ensures { result ≡ judge_over plan.now policy.now }
 {
     let read = policies::read_policy(plan.count as u8, policy);
     let answer = read.answer;
     let assertions = read.policy;
     match answer {
-        Reading::Complete => judge_read(plan, assertions),
+        Reading::Complete => judge_read(plan, &assertions).into(),
         Reading::Refused(r) => unread(Text::Policy, r),
     }
 }
 
 // Unread (the text, number and line), broken or accepted: the plan is read first, the policy only if the plan reads.
-pub fn judge<'a>(plan: &'a [u8], policy: &'a [u8]) -> Verdict
+pub fn judge(plan: &[u8], policy: &[u8]) -> Verdict
     ensures { result ≡ judge plan.now policy.now }
 {
     let read = reader::read_plan(plan);
     let answer = read.answer;
     let templates = read.plan;
     match answer {
-        Reading::Complete => judge_over(templates, policy),
+        Reading::Complete => judge_over(&templates, policy),
         Reading::Refused(r) => unread(Text::Plan, r),
     }
 }

@@ -1,9 +1,5 @@
-use Prim.Native.Nat.{◌-◌}
 use Rattle.creation.proofs.Creators.{Gathered}
 use Rattle.creation.proofs.created_twice.Given as goal
 
 abbrev pub invariant-loop-x : goal.invariant-loop-x
-invariant-loop-x l = Gathered l.plan l.n l.x l.once l.twice
-
-abbrev pub decreases-loop-x : goal.decreases-loop-x
-decreases-loop-x l = l.n - l.x
+invariant-loop-x l = Gathered l.plan l.x l.once l.twice

@@ -1,9 +1,8 @@
-use Prim.Native.Nat.{◌-◌}
-use Rattle.creation.proofs.Creators.{Passing}
+use mathlib.Core.Path.{◌≡◌}
+use mathlib.Core.Bool.{false}
+use Rattle.lists.specs.Numbers.{any}
+use Rattle.creation.proofs.Creators.{from_on}
 use Rattle.creation.proofs.creator_from.Given as goal
 
 abbrev pub invariant-loop-x : goal.invariant-loop-x
-invariant-loop-x l = Passing l.plan l.t l.from l.n l.x
-
-abbrev pub decreases-loop-x : goal.decreases-loop-x
-decreases-loop-x l = l.n - l.x
+invariant-loop-x l = any l.x (from_on l.plan l.from l.t) ≡ false

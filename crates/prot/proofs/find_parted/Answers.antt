@@ -1,17 +1,9 @@
 -- So far the identifiers below t are found.
-use Prim.Native.Nat.{◌-◌}
-use native.Mathlib.Omega.{arith}
 use Rattle.prot.proofs.Prot.{found_none, found_more, found_end}
 use Rattle.prot.proofs.find_parted.Goals as goal
 
 pub loop-t-init : goal.loop-t-init
 loop-t-init c = search found_none
-
-pub overflow_add-t : goal.overflow_add-t
-overflow_add-t c = omega arith
-
-pub loop-t-smaller : goal.loop-t-smaller
-loop-t-smaller c = omega arith
 
 pub loop-t-preserved : goal.loop-t-preserved
 loop-t-preserved c = search found_more

@@ -1,5 +1,7 @@
--- In each arm the verdict is that arm's variant.
-use mathlib.Core.Path.{sym, ap}
+-- By the variant.
+use mathlib.Core.Path.{◌≡◌, refl, sym, ap}
+use mathlib.Core.Bool.{false}
+use Rattle.rules.specs.Judge.{Verdict, Accepted, Broken, Unread}
 use Rattle.rules.specs.Broken.{accepted}
 use Rattle.rules.proofs.is_accepted.Goals as goal
 
@@ -7,10 +9,11 @@ pub returns-in-Accepted : goal.returns-in-Accepted
 unfolding accepted
 returns-in-Accepted c = ap accepted (sym c.in-Accepted.is)
 
-pub returns-in-Broken : goal.returns-in-Broken
+other : (v : Verdict) → (v ≡ Accepted → ⊥) → false ≡ accepted v
 unfolding accepted
-returns-in-Broken c = ap accepted (sym c.in-Broken.is)
+other Accepted h = absurd (h refl)
+other (Broken b) h = refl
+other (Unread f) h = refl
 
-pub returns-in-Unread : goal.returns-in-Unread
-unfolding accepted
-returns-in-Unread c = ap accepted (sym c.in-Unread.is)
+pub returns-in_default : goal.returns-in_default
+returns-in_default c = search other

@@ -1,13 +1,14 @@
 -- The first that is not accepted.
-use borrow.Author.Tests.{not-true, not-false}
 use Rattle.verdict.proofs.Ways.{stopped_11, stopped_edges, passed_edges}
 use Rattle.verdict.proofs.judge_read.Goals as goal
 
-pub returns-then-not-is_accepted : goal.returns-then-not-is_accepted
-returns-then-not-is_accepted c = search (stopped_11, not-true)
+pub returns-in_err-check_11 : goal.returns-in_err-check_11
+returns-in_err-check_11 c = stopped_11 _ _ _ c.check_11.ensures _ c.in_err-check_11.was _ c.from_residual.ensures.1
 
-pub returns-then-not-is_accepted-2 : goal.returns-then-not-is_accepted-2
-returns-then-not-is_accepted-2 c = search (stopped_edges, not-true, not-false)
+pub returns-in_err-check_edges : goal.returns-in_err-check_edges
+returns-in_err-check_edges c =
+    stopped_edges _ _ _ c.check_11.ensures _ c.in_ok-check_11.was _ c.check_edges.ensures _ c.in_err-check_edges.was _ c.from_residual-in_err-check_edges.ensures.1
 
 pub returns : goal.returns
-returns c = search (passed_edges, not-false)
+returns c =
+    passed_edges _ _ _ c.check_11.ensures _ c.in_ok-check_11.was _ c.check_edges.ensures _ c.in_ok-check_edges.was _ c.check_assertions.ensures

@@ -1,6 +1,6 @@
 -- By the test.
 use Rattle.assertions.proofs.Order.{served, unserved}
-use Rattle.assertions.proofs.verdict_17.Goals as goal
+use Rattle.assertions.proofs.check_17.Goals as goal
 
 pub returns-then-served : goal.returns-then-served
 returns-then-served c = search served

@@ -1,9 +1,0 @@
--- `relations::fork_crosses`, by cases: a template that is no fork or not reached, and a fork.
-use Rattle.relations.proofs.Steps.{fork_unreached, fork_reached}
-use Rattle.relations.proofs.fork_crosses.Goals as goal
-
-pub returns-then-not-contains_u64 : goal.returns-then-not-contains_u64
-returns-then-not-contains_u64 c = search fork_unreached
-
-pub returns : goal.returns
-returns c = search fork_reached

@@ -1,6 +1,0 @@
--- `route::search_from` is the search that has seen nothing yet.
-use Rattle.route.proofs.Steps.{search_laid}
-use Rattle.route.proofs.search_from.Goals as goal
-
-pub returns : goal.returns
-returns c = search search_laid
