@@ -54,18 +54,6 @@ fn print_more_tags<W: Write>(out: &mut W, tags: &[u32]) -> io::Result<()>
     Ok(())
 }
 
-// The tags from one place on and before another, with commas between them.
-fn print_tags<W: Write>(out: &mut W, tags: &[u32], from: usize, to: usize) -> io::Result<()>
-    ensures { from ≤ to → to ≤ length tags.now
-        → OnOk result (Appends (W.contents out.old) (W.contents out.new) (tag_list (slice_range tags.now from to))) }
-{
-    let end = to.min(tags.len());
-    if end < from {
-        return Ok(());
-    }
-    print_tag_list(out, &tags[from..end])
-}
-
 // What a process's line has before its tags.
 #[tactic(auto, unfolding(crate::specs::Lines::names_of))]
 fn print_names<W: Write>(out: &mut W, serial: u32, template: u32, label: u32) -> io::Result<()>
@@ -83,12 +71,9 @@ fn print_row<W: Write>(out: &mut W, tags: &[u32; 4096], place: u32, m: u32) -> i
     ensures { OnOk result (Appends (W.contents out.old) (W.contents out.new)
         (tag_list (slice_range tags.now (place * m) ((place + 1) * m)))) }
 {
-    print_tags(
-        out,
-        tags,
-        tagrows::row_start(place, m),
-        tagrows::row_start(place + 1, m),
-    )
+    let start = tagrows::row_start(place, m);
+    let end = tagrows::row_start(place + 1, m);
+    print_tag_list(out, &tags[start..end])
 }
 
 // The line of a process at a place that the state has.
