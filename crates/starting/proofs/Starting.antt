@@ -13,8 +13,7 @@ use Rattle.lists.proofs.Length.{get_or-same}
 use Rattle.lists.proofs.Tabulate.{tabulate_ext}
 use Rattle.plan.specs.declared.Plan.{Plan}
 use Rattle.plan.specs.Plan.{at}
-use Rattle.text.specs.declared.PlanRead.{PlanRead}
-use Rattle.text.specs.Reading.{read_plan}
+use Rattle.text.specs.Reading.{PlanRead, read_plan}
 use Rattle.reader.proofs.Range.{plan_in_range}
 use Rattle.planrow.specs.Row.{plan_of_row, row_of_plan}
 use Rattle.planrow.proofs.RoundTrip.{round_trip}

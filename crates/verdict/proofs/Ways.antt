@@ -6,12 +6,9 @@ use Rattle.std.specs.Prelude.{Result, Ok, Err, IsErrAnd}
 use Rattle.plan.specs.declared.Plan.{Plan}
 use Rattle.plan.specs.declared.Policy.{Policy}
 use Rattle.plan.specs.Range.{InRange}
-use Rattle.text.specs.declared.Refusal.{Refusal}
-use Rattle.text.specs.declared.Reading.{Reading}
-use Rattle.text.specs.declared.Reading.TheVariants.{Complete, Refused}
-use Rattle.text.specs.declared.PlanRead.{PlanRead}
-use Rattle.text.specs.declared.PolicyRead.{PolicyRead}
-use Rattle.text.specs.Reading.{read_plan, read_policy}
+use Rattle.text.specs.declared.Refused.{Refused as RefusedLine}
+use Rattle.text.specs.Reading.{PlanRead, PolicyRead, read_plan, read_policy}
+use Rattle.text.specs.Answers.{refusal_of, plan_read, policy_read}
 use Rattle.reader.proofs.Range.{plan_in_range}
 use Rattle.rules.specs.declared.Text.TheVariants.{Plan as PlanText, Policy as PolicyText}
 use Rattle.rules.specs.declared.Breach.{Breach}
@@ -44,40 +41,39 @@ module _ (plan : Plan) (policy : Policy) (v : Result (Unit {0}) Breach) (e : ans
 
 -- ---- the policy
 
-module _ (plan : Plan) (text : List ℕ) (p : PolicyRead) (e : p ≡ read_policy plan.count text) where
-  over : (r : Reading) → p.answer ≡ r → judge_over plan text ≡ after_reading PolicyText r (judge_read plan p.policy)
+module _ (plan : Plan) (text : List ℕ) (p : Result Policy RefusedLine) (e : policy_read p ≡ read_policy plan.count text) where
+  over : (q : Result Policy RefusedLine) → p ≡ q → judge_over plan text ≡ after_reading PolicyText (policy_read q).answer (judge_read plan (policy_read q).policy)
   unfolding judge_over
-  over r h =
-      ap (λ (x : PolicyRead). after_reading PolicyText x.answer (judge_read plan x.policy)) (sym e)
-      ∙ ap (λ (x : Reading). after_reading PolicyText x (judge_read plan p.policy)) h
+  over q h = ap (λ (x : PolicyRead). after_reading PolicyText x.answer (judge_read plan x.policy)) (sym e ∙ ap policy_read h)
 
-  pub policy_complete : p.answer ≡ Complete → (r : Result (Unit {0}) Breach) → answered r ≡ judge_read plan p.policy → (v : Verdict) → v ≡ answered r
+  pub policy_complete : (q : Policy) → p ≡ Ok q → (r : Result (Unit {0}) Breach) → answered r ≡ judge_read plan q → (v : Verdict) → v ≡ answered r
       → v ≡ judge_over plan text
   unfolding after_reading
-  policy_complete h r k v q = q ∙ k ∙ sym (over Complete h)
+  policy_complete q h r k v m = m ∙ k ∙ sym (over (Ok q) h)
 
-  pub policy_refused : (r : Refusal) → p.answer ≡ Refused r → (v : Verdict) → v ≡ unread PolicyText r → v ≡ judge_over plan text
+  pub policy_refused : (r : RefusedLine) → p ≡ Err r → (v : Verdict) → v ≡ unread PolicyText (refusal_of r) → v ≡ judge_over plan text
   unfolding after_reading unread
-  policy_refused r h v k = k ∙ sym (over (Refused r) h)
+  policy_refused r h v k = k ∙ sym (over (Err r) h)
 
 -- ---- the plan
 
-module _ (plan policy : List ℕ) (p : PlanRead) (e : p ≡ read_plan plan) where
-  pub plan_range : p.answer ≡ Complete → InRange p.plan
-  plan_range h =
-      subst (λ (x : PlanRead). InRange x.plan) (sym e)
-      (plan_in_range plan (sym (ap (λ (x : PlanRead). x.answer) e) ∙ h))
+module _ (plan policy : List ℕ) (p : Result Plan RefusedLine) (e : plan_read p ≡ read_plan plan) where
+  read_as : (q : Result Plan RefusedLine) → p ≡ q → read_plan plan ≡ plan_read q
+  read_as q h = sym e ∙ ap plan_read h
 
-  whole : (r : Reading) → p.answer ≡ r → judge plan policy ≡ after_reading PlanText r (judge_over p.plan policy)
+  pub plan_range : (q : Plan) → p ≡ Ok q → InRange q
+  plan_range q h =
+      subst (λ (x : PlanRead). InRange x.plan) (read_as (Ok q) h)
+      (plan_in_range plan (ap (λ (x : PlanRead). x.answer) (read_as (Ok q) h)))
+
+  whole : (q : Result Plan RefusedLine) → p ≡ q → judge plan policy ≡ after_reading PlanText (plan_read q).answer (judge_over (plan_read q).plan policy)
   unfolding judge judge_over
-  whole r h =
-      ap (λ (x : PlanRead). after_reading PlanText x.answer (judge_over x.plan policy)) (sym e)
-      ∙ ap (λ (x : Reading). after_reading PlanText x (judge_over p.plan policy)) h
+  whole q h = ap (λ (x : PlanRead). after_reading PlanText x.answer (judge_over x.plan policy)) (read_as q h)
 
-  pub plan_complete : p.answer ≡ Complete → (v : Verdict) → v ≡ judge_over p.plan policy → v ≡ judge plan policy
+  pub plan_complete : (q : Plan) → p ≡ Ok q → (v : Verdict) → v ≡ judge_over q policy → v ≡ judge plan policy
   unfolding after_reading
-  plan_complete h v k = k ∙ sym (whole Complete h)
+  plan_complete q h v k = k ∙ sym (whole (Ok q) h)
 
-  pub plan_refused : (r : Refusal) → p.answer ≡ Refused r → (v : Verdict) → v ≡ unread PlanText r → v ≡ judge plan policy
+  pub plan_refused : (r : RefusedLine) → p ≡ Err r → (v : Verdict) → v ≡ unread PlanText (refusal_of r) → v ≡ judge plan policy
   unfolding after_reading unread
-  plan_refused r h v k = k ∙ sym (whole (Refused r) h)
+  plan_refused r h v k = k ∙ sym (whole (Err r) h)

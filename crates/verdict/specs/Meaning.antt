@@ -3,8 +3,7 @@
 use Rattle.std.specs.Prelude.{ℕ, ◌≡◌, List}
 use Rattle.plan.specs.declared.Plan.{Plan}
 use Rattle.plan.specs.declared.Policy.{Policy}
-use Rattle.text.specs.declared.Reading.TheVariants.{Complete}
-use Rattle.text.specs.Reading.{read_plan, read_policy}
+use Rattle.text.specs.Reading.{Complete, read_plan, read_policy}
 use Rattle.rules.specs.declared.Breach.{Breach}
 use Rattle.rules.specs.Rules.{EveryRule}
 use Rattle.rules.specs.Broken.{FirstBroken}

@@ -2,8 +2,7 @@
 -- Not to be believed: the contract of judge names `judge` alone.
 use Rattle.std.specs.Prelude.{ℕ, List}
 use Rattle.plan.specs.declared.Plan.{Plan}
-use Rattle.text.specs.declared.Refusal.{Refusal}
-use Rattle.text.specs.Reading.{read_policy}
+use Rattle.text.specs.Reading.{Refusal, read_policy}
 use Rattle.rules.specs.declared.Text.{Text}
 use Rattle.rules.specs.declared.Text.TheVariants.{Policy as PolicyText}
 use Rattle.rules.specs.declared.Verdict.{Verdict}

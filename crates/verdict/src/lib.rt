@@ -5,11 +5,12 @@ ghost use Rattle.std.specs.Prelude.{◌≡◌};
 ghost use Rattle.plan.specs.Range.{InRange};
 ghost use Rattle.rules.specs.Judge.{judge_read, judge};
 ghost use Rattle.rules.specs.Broken.{answered};
+ghost use Rattle.text.specs.Answers.{refusal_of};
 ghost use Rattle.verdict.specs.Over.{unread, judge_over};
 
 use plan::{Plan, Policy};
 use rules::{Breach, Fault, Text, Verdict};
-use text::{Reading, Refusal};
+use text::Refused;
 
 // 11, then the edges, then the assertions.
 fn judge_read(plan: &Plan, policy: &Policy) -> Result<(), Breach>
@@ -21,12 +22,13 @@ fn judge_read(plan: &Plan, policy: &Policy) -> Result<(), Breach>
 }
 
 // A text that was refused.
-fn unread(text: Text, r: Refusal) -> Verdict
-    ensures { result ≡ unread text r }
+#[tactic(auto, unfolding(crate::specs::Over::unread))]
+fn unread(text: Text, r: Refused) -> Verdict
+    ensures { result ≡ unread text (refusal_of r) }
 {
     Verdict::Unread(Fault {
         text,
-        number: r.number,
+        number: r.refusal.into(),
         line: r.line,
     })
 }
@@ -36,12 +38,9 @@ fn judge_over(plan: &Plan, policy: &[u8]) -> Verdict
     requires { InRange plan.now }
     ensures { result ≡ judge_over plan.now policy.now }
 {
-    let read = policies::read_policy(plan.count as u8, policy);
-    let answer = read.answer;
-    let assertions = read.policy;
-    match answer {
-        Reading::Complete => judge_read(plan, &assertions).into(),
-        Reading::Refused(r) => unread(Text::Policy, r),
+    match policies::read_policy(plan.count as u8, policy) {
+        Ok(assertions) => judge_read(plan, &assertions).into(),
+        Err(r) => unread(Text::Policy, r),
     }
 }
 
@@ -49,11 +48,8 @@ fn judge_over(plan: &Plan, policy: &[u8]) -> Verdict
 pub fn judge(plan: &[u8], policy: &[u8]) -> Verdict
     ensures { result ≡ judge plan.now policy.now }
 {
-    let read = reader::read_plan(plan);
-    let answer = read.answer;
-    let templates = read.plan;
-    match answer {
-        Reading::Complete => judge_over(&templates, policy),
-        Reading::Refused(r) => unread(Text::Plan, r),
+    match reader::read_plan(plan) {
+        Ok(templates) => judge_over(&templates, policy),
+        Err(r) => unread(Text::Plan, r),
     }
 }

@@ -5,8 +5,8 @@ use Rattle.verdict.proofs.judge.Goals as goal
 pub judge_over-requires : goal.judge_over-requires
 judge_over-requires c = search plan_range
 
-pub returns-in-Complete : goal.returns-in-Complete
-returns-in-Complete c = search plan_complete
+pub returns-in-Ok : goal.returns-in-Ok
+returns-in-Ok c = search plan_complete
 
-pub returns-in-Refused : goal.returns-in-Refused
-returns-in-Refused c = search plan_refused
+pub returns-in-Err : goal.returns-in-Err
+returns-in-Err c = search plan_refused
