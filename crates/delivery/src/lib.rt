@@ -12,6 +12,7 @@ ghost use Rattle.population.specs.Lent.{settles, Tried};
 ghost use Rattle.population.specs.Refusals.{answer_or};
 
 use machine::Answer;
+use mask::Mask;
 use planrow::WORDS;
 use population::Refusal;
 
@@ -19,7 +20,7 @@ use population::Refusal;
 fn is_agreed(label: u32, receiver: u32, sent: u32, held: u32, i: u32) -> bool
     ensures { result ≡ (not (has i label) || (has i receiver && eqb sent held)) }
 {
-    !mask::contains_u32(label, i) | (mask::contains_u32(receiver, i) & (sent == held))
+    !label.contains(i) | (receiver.contains(i) & (sent == held))
 }
 
 // Whether what a sender wears, a label and m tags from a place on, passes to a receiver of that label whose tags stand from

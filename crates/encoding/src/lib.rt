@@ -34,7 +34,7 @@ impl From<Form> for FormWords {
     }
 }
 
-// A template's words.
+// A template's words. A function, as row_of is: From may not be written here for two types of other crates.
 fn words_of(t: Template) -> [u32; WIDTH]
     ensures { result ≡ words_of t }
 {

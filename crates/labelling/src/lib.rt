@@ -9,6 +9,7 @@ ghost use Rattle.population.specs.Lent.{settles, Tried};
 ghost use Rattle.population.specs.Refusals.{done_or};
 ghost use Rattle.labelling.specs.Labelling.{moves, refusal_of};
 
+use mask::Mask;
 use plan::Template;
 use planrow::WORDS;
 use population::Refusal;
@@ -39,7 +40,7 @@ fn permit(m: u32, risk: bool, allowed: u32, i: u32) -> Result<(), Refusal>
     if !risk {
         return Err(Refusal::NotAtRisk);
     }
-    if !mask::contains_u32(allowed, i) {
+    if !allowed.contains(i) {
         return Err(Refusal::NotAllowed);
     }
     Ok(())

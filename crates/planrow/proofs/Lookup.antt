@@ -1,11 +1,12 @@
 -- A template looked up in a row is that of the plan that the row stands for.
 use Prim.Native.Nat.{ℕ, ◌≤◌, ◌<◌}
-use mathlib.Core.Path.{◌≡◌, refl, sym, ap, ap₂, ◌∙◌}
+use mathlib.Core.Path.{◌≡◌, refl, sym, ap, ap₂, subst, ◌∙◌}
 use mathlib.Core.Bool.{Bool, true, false, cond, ◌&&◌}
 use mathlib.Core.List.{List}
 use mathlib.Core.Option.{none, some}
 use native.Mathlib.Omega.{arith}
-use Rattle.std.proofs.Common.{Option, Some, None, unwrap_or}
+use Rattle.std.proofs.Common.{Option, Some, None}
+use Rattle.std.specs.Option.{UnwrapsOrElse}
 use lib.ListN.{get_or}
 use lib.Dec.{ltb}
 use borrow.Author.Tests.{lt-ltb, le-ltb}
@@ -30,16 +31,16 @@ module _ (row : List ℕ) (X : ℕ) where
   unfolding template_at
   inside h = rw (lt-ltb X 64 h) refl
 
-  -- ws are the words, o the template that they stand for.
+  -- ws are the words, o the template that they stand for, r that or the blank one.
   pub looked : X < 64 → (ws : List ℕ) → ws ≡ part_at row X → (o : Option Template) → o ≡ template_meant (word ws)
-      → (b : Template) → b ≡ blank → (r : Template) → r ≡ unwrap_or o b → r ≡ template_at row X
-  looked h ws w o eo b eb r er =
-      er ∙ ap₂ unwrap_or eo eb ∙ or_blank (is_template (word ws)) (template_of (word ws))
+      → (r : Template) → UnwrapsOrElse o (λ t. t ≡ blank) r → r ≡ template_at row X
+  looked h ws w o eo r u =
+      or_blank (is_template (word ws)) (template_of (word ws)) (subst (λ (o : Option Template). UnwrapsOrElse o (λ t. t ≡ blank) r) eo u)
       ∙ ap₂ (λ (b : Bool) (t : Template). cond b t blank) (part-tested row X ws w) (part-template row X ws w) ∙ sym (inside h)
     where
-      or_blank : (b : Bool) (t : Template) → unwrap_or (cond b (Some t) None) blank ≡ cond b t blank
-      or_blank true t = refl
-      or_blank false t = refl
+      or_blank : (b : Bool) (t : Template) → UnwrapsOrElse (cond b (Some t) None) (λ t. t ≡ blank) r → r ≡ cond b t blank
+      or_blank true t u = u
+      or_blank false t u = u
 
 -- ---- a row that means a plan
 

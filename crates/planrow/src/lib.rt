@@ -87,9 +87,8 @@ fn template_in(words: &[u32]) -> Option<Template>
 pub fn template_at(row: &[u32; WORDS], x: u32) -> Template
     ensures { result ≡ template_at row.now x }
 {
-    let blank = plan::blank_template();
     if 64 <= x {
-        return blank;
+        return Template::default();
     }
-    template_in(words_at(row, x)).unwrap_or(blank)
+    template_in(words_at(row, x)).unwrap_or_default()
 }

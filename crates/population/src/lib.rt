@@ -59,11 +59,7 @@ impl From<Refusal> for Answer {
 pub fn find(serials: &[u32; 128], live: u32, serial: u32) -> Result<usize, Refusal>
     ensures { Found serials.now live serial result }
 {
-    let k = arrays::place_of(serials, 0, live, serial);
-    if live as usize <= k {
-        return Err(Refusal::NotLive);
-    }
-    Ok(k)
+    arrays::place_of(serials, 0, live, serial).ok_or(Refusal::NotLive)
 }
 
 // A child's template, by its number too.
@@ -96,6 +92,8 @@ pub fn settle(answer: Answer, next: u32, live: u32) -> Settled
 }
 
 // The processes' part of refusal 20, of parts of any length: N templates, M identifiers.
+// Here and in the crates above next, live and the four arrays are parameters of their own: the C interface lends them apart, and
+// a struct of the arrays would owe in each contract that its fields still hold the same references.
 pub fn are_fitting<'a>(
     count: u32,
     m: u32,

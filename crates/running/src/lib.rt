@@ -18,7 +18,7 @@ pub struct Place {
     pub count: usize,
 }
 
-// 0 done, 1 delivered, 2 held, and a refusal's own number.
+// 0 done, 1 delivered, 2 held, and a refusal's own number. A function: From may not be written here for two types of other crates.
 pub fn code_of(answer: Answer) -> u8
     ensures { result ≡ code_of answer }
 {

@@ -6,14 +6,14 @@ ghost use Rattle.rules.specs.Judge.{judge};
 ghost use Rattle.machine.specs.State.{machine_of, blank_state, root_state, started, started_state};
 
 use machine::{Started, State};
-use plan::Plan;
+use plan::{Plan, Template};
 
 // What stands beside a verdict that is not accepted: the documents promise the blank state, so start hands back a struct and no
 // Result.
 fn blank_state() -> State
     ensures { result ≡ blank_state }
 {
-    let blank = plan::blank_template();
+    let blank = Template::default();
     State {
         plan: Plan {
             count: 0,
@@ -33,7 +33,7 @@ fn blank_state() -> State
 fn root_state(plan: Plan) -> State
     ensures { result ≡ root_state plan }
 {
-    let root = plan::template_at(plan, 0);
+    let root = plan.template(0);
     State {
         plan,
         next: 1,

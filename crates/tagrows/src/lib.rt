@@ -7,6 +7,8 @@ ghost use Rattle.lists.specs.Numbers.{tabulate};
 ghost use Rattle.lists.specs.Writes.{written};
 ghost use Rattle.tagrows.specs.Rows.{child_tag};
 
+use mask::Mask;
+
 // Where the tags of a place begin, of m identifiers.
 pub fn row_start(place: u32, m: u32) -> usize
     ensures { result ≡ place * m }
@@ -29,11 +31,7 @@ fn child_tag(serial: u32, creates: u32, parent: u32, i: u32) -> u32
     requires { i < 32 }
     ensures { result ≡ child_tag serial creates parent i }
 {
-    if mask::contains_u32(creates, i) {
-        serial
-    } else {
-        parent
-    }
+    if creates.contains(i) { serial } else { parent }
 }
 
 // Writes the 32 tags of a child from a place on, the last 32 where fewer are there.

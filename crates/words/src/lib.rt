@@ -7,7 +7,7 @@ ghost use Rattle.words.specs.Words.{part_words};
 
 use rules::{Part, Text, Verdict};
 
-// Functions, and no impl of From: texts, verdicts and parts are types of crate rules, and so are numbers no types of this one.
+// Functions: From may not be written here for two types of other crates.
 fn text_number(text: Text) -> u32
     ensures { result ≡ text_number text }
 {

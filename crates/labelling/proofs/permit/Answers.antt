@@ -8,8 +8,8 @@ returns-then-m-i c = search refused_27
 pub returns-then-not-risk : goal.returns-then-not-risk
 returns-then-not-risk c = search refused_28
 
-pub returns-then-not-contains_u32 : goal.returns-then-not-contains_u32
-returns-then-not-contains_u32 c = search refused_29
+pub returns-then-not-contains : goal.returns-then-not-contains
+returns-then-not-contains c = search refused_29
 
 pub returns : goal.returns
 returns c = search refused_none

@@ -3,10 +3,10 @@ use mathlib.Core.Path.{sym, ◌∙◌}
 use Rattle.tagrows.specs.Rows.{child_tag}
 use Rattle.tagrows.proofs.child_tag.Goals as goal
 
-pub returns-then-contains_u32 : goal.returns-then-contains_u32
+pub returns-then-contains : goal.returns-then-contains
 unfolding child_tag
-returns-then-contains_u32 c = rw (sym c.contains_u32.ensures ∙ c.if-contains_u32.true)
+returns-then-contains c = rw (sym c.contains.ensures ∙ c.if-contains.true)
 
-pub returns-else-contains_u32 : goal.returns-else-contains_u32
+pub returns-else-contains : goal.returns-else-contains
 unfolding child_tag
-returns-else-contains_u32 c = rw (sym c.contains_u32.ensures ∙ c.if-contains_u32.false)
+returns-else-contains c = rw (sym c.contains.ensures ∙ c.if-contains.false)
