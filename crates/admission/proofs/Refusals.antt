@@ -1,12 +1,12 @@
 -- Refusals 22 to 25, as the code meets them: each callee's result is a variable, and what it ensures a premise.
 use Prim.Native.Nat.{ℕ, zero, suc, ◌+◌, ◌-◌, ◌≤◌, ◌<◌}
-use mathlib.Core.Path.{◌≡◌, refl, sym, ap, ap₂, subst, ◌∙◌}
+use mathlib.Core.Path.{◌≡◌, refl, sym, ap, ap₂, ◌∙◌}
 use mathlib.Core.Bool.{Bool, true, false, not, cond, ◌&&◌, ◌||◌, and-true}
 use mathlib.Core.Logic.{⊎_elim}
 use native.Mathlib.Omega.{arith}
 use lib.Dec.{ltb, leb, eqb}
 use lib.Bits.{bit_or}
-use Rattle.std.specs.Prelude.{Option, Some, None, is_none}
+use Rattle.std.specs.Prelude.{Option, Some, None, is_some}
 use borrow.Author.Tests.{leb-true, le-leb, lt-leb, le-ltb, ltb-true, ltb-false, not-false}
 use Rattle.lists.specs.Numbers.{every, all, lowest}
 use Rattle.lists.proofs.Tests.{lt_or_le, same_test}
@@ -43,10 +43,10 @@ offences_gathered label X Y m₁₂ m₁₃ m₁₆ h₁₂ h₁₃ h₁₆ i =
 
 -- A lowest offender that is not below M: none of M is one.
 pub fits_one : (M label : ℕ) (X Y : Template) (w : ℕ) (o : Option ℕ) → Marks w (λ i. not (innocent label X Y i)) → o ≡ lowest_of M (λ i. has i w)
-    → is_none o ≡ fitting M label X Y
+    → (none : Bool) → is_some o ≡ not none → none ≡ fitting M label X Y
 unfolding fitting
-fits_one M label X Y w o marks e =
-    ap is_none e ∙ past (ltb l M) refl
+fits_one M label X Y w o marks e none told =
+    turned none ∙ ap not (sym told ∙ ap is_some e) ∙ past (ltb l M) refl
     ∙ same_test (leb M l) (every M (innocent label X Y))
     (λ t. every_of M (innocent label X Y) (λ i h.
     not-false (innocent label X Y i) (sym (marks i) ∙ lowest-below M (λ i. has i w) i (let g = leb-true M l t in omega arith))))
@@ -55,7 +55,11 @@ fits_one M label X Y w o marks e =
     l : ℕ
     l = lowest M (λ i. has i w)
 
-    past : (b : Bool) → ltb l M ≡ b → is_none (cond b (Some l) None) ≡ leb M l
+    turned : (b : Bool) → b ≡ not (not b)
+    turned true = refl
+    turned false = refl
+
+    past : (b : Bool) → ltb l M ≡ b → not (is_some (cond b (Some l) None)) ≡ leb M l
     past true h = sym (lt-leb M l (ltb-true l M h))
     past false h = sym (le-leb M l (ltb-false l M h))
 
