@@ -1,6 +1,6 @@
 -- Reading the plan and the policy, line by line (document 01, "The two texts" and "Reading").
 -- A reader goes from a cursor to a value and the next cursor. Once a line is refused no later line is looked at.
--- Believed: everything here. Proved against it: crates text, numberlines, ending, lines, entries, reader and policies.
+-- Believed: everything here. Proved against it: crates text, entries, reader and policies.
 use Prim.Native.{Nat.{ℕ, zero, suc, ◌+◌, ◌-◌}, String.{String}}
 use mathlib.Core.{Bool.{false, cond, ◌&&◌}, List.{List, [], ◌∷◌, ◌++◌}}
 use lib.{Dec.{leb, ltb}, ListN.{length, take, drop, replicate}}
