@@ -16,7 +16,7 @@ use std::io::Write;
 fn print_fault<W: Write>(out: &mut W, line: u64) -> io::Result<()>
     ensures { OnOk result (Appends (W.contents out.old) (W.contents out.new) (fault_line line)) }
 {
-    writeln!(out, "unread line={line}")
+    console::print_figure(out, b"unread line=", line)
 }
 
 // The answers, and then the state, or the line that is no call.
