@@ -1,5 +1,5 @@
 -- What the answers of the code that reads a field stand for: the field's value, or the number of the refusal.
--- Not to be believed: the contracts of read_plan and read_policy do not name them.
+-- Believed: `numbered`, which text/specs/Answers.antt names. The rest is not: no contract of read_plan or read_policy names it.
 use Rattle.std.specs.Prelude.{ℕ, Bool, ◌&&◌, List, leb, ltb, length, Result, Ok, Err}
 use Rattle.lists.specs.Numbers.{all}
 use Rattle.field.specs.Fields.{Field, is, bad, name_byte}
