@@ -1,12 +1,13 @@
 -- Refusals 22 to 25, as the code meets them: each callee's result is a variable, and what it ensures a premise.
 use Prim.Native.Nat.{ℕ, zero, suc, ◌+◌, ◌-◌, ◌≤◌, ◌<◌}
-use mathlib.Core.Path.{◌≡◌, refl, sym, ap, ap₂, subst, ◌∙◌}
-use mathlib.Core.Bool.{Bool, true, false, not, ◌&&◌, ◌||◌, and-true}
+use mathlib.Core.Path.{◌≡◌, refl, sym, ap, ap₂, ◌∙◌}
+use mathlib.Core.Bool.{Bool, true, false, not, cond, ◌&&◌, ◌||◌, and-true}
 use mathlib.Core.Logic.{⊎_elim}
 use native.Mathlib.Omega.{arith}
 use lib.Dec.{ltb, leb, eqb}
 use lib.Bits.{bit_or}
-use borrow.Author.Tests.{leb-true, le-leb, lt-leb, le-ltb, not-false}
+use Rattle.std.specs.Prelude.{Option, Some, None, is_some}
+use borrow.Author.Tests.{leb-true, le-leb, lt-leb, le-ltb, ltb-true, ltb-false, not-false}
 use Rattle.lists.specs.Numbers.{every, all, lowest}
 use Rattle.lists.proofs.Tests.{lt_or_le, same_test}
 use Rattle.lists.proofs.Every.{every_at, every_of}
@@ -19,6 +20,7 @@ use Rattle.rules.specs.Judge.{offends12, offends13, offends16, step_rules}
 use Rattle.machine.specs.declared.Answer.TheVariants.{Done, Refused}
 use Rattle.machine.specs.Machine.{refuse_if, branch_fits}
 use Rattle.machine.proofs.Outcomes.{refuse_yes, refuse_no}
+use Rattle.offenders.specs.Lowest.{lowest_of}
 use Rattle.admission.specs.Admission.{innocent, fitting, all_fitting, refusal_of}
 
 -- ---- 25
@@ -40,14 +42,26 @@ offences_gathered label X Y m₁₂ m₁₃ m₁₆ h₁₂ h₁₃ h₁₆ i =
     some false false false = refl
 
 -- A lowest offender that is not below M: none of M is one.
-pub fits_one : (M label : ℕ) (X Y : Template) (w l : ℕ) → Marks w (λ i. not (innocent label X Y i)) → l ≡ lowest M (λ i. has i w)
-    → leb M l ≡ fitting M label X Y
+pub fits_one : (M label : ℕ) (X Y : Template) (w : ℕ) (o : Option ℕ) → Marks w (λ i. not (innocent label X Y i)) → o ≡ lowest_of M (λ i. has i w)
+    → (none : Bool) → is_some o ≡ not none → none ≡ fitting M label X Y
 unfolding fitting
-fits_one M label X Y w l marks e =
-    same_test (leb M l) (every M (innocent label X Y))
+fits_one M label X Y w o marks e none told =
+    turned none ∙ ap not (sym told ∙ ap is_some e) ∙ past (ltb l M) refl
+    ∙ same_test (leb M l) (every M (innocent label X Y))
     (λ t. every_of M (innocent label X Y) (λ i h.
-    not-false (innocent label X Y i) (sym (marks i) ∙ lowest-below M (λ i. has i w) i (let g = leb-true M l t in subst (λ (k : ℕ). i < k) e (omega arith)))))
-    (λ t. le-leb M l (subst (λ (k : ℕ). M ≤ k) (sym (e ∙ lowest_none M (λ i. has i w) (λ i h. marks i ∙ ap not (every_at M (innocent label X Y) t i h)))) (omega arith)))
+    not-false (innocent label X Y i) (sym (marks i) ∙ lowest-below M (λ i. has i w) i (let g = leb-true M l t in omega arith))))
+    (λ t. le-leb M l (let g = lowest_none M (λ i. has i w) (λ i h. marks i ∙ ap not (every_at M (innocent label X Y) t i h)) in omega arith))
+  where
+    l : ℕ
+    l = lowest M (λ i. has i w)
+
+    turned : (b : Bool) → b ≡ not (not b)
+    turned true = refl
+    turned false = refl
+
+    past : (b : Bool) → ltb l M ≡ b → not (is_some (cond b (Some l) None)) ≡ leb M l
+    past true h = sym (lt-leb M l (ltb-true l M h))
+    past false h = sym (le-leb M l (ltb-false l M h))
 
 pub fits_all : (M label : ℕ) (X : Template) (count : ℕ) (t u : Template) (a b : Bool) → a ≡ fitting M label X t → b ≡ fitting M label X u
     → ((ltb count 1 || a) && (ltb count 2 || b)) ≡ all_fitting M label X count t u

@@ -65,7 +65,7 @@ fn offences(label: u32, x: Template, y: Template) -> u32
 fn is_fitting(m: u32, label: u32, x: Template, y: Template) -> bool
     ensures { result ≡ fitting m label x y }
 {
-    m <= offenders::lowest_below(m, offences(label, x, y))
+    offenders::lowest_below(m, offences(label, x, y)).is_none()
 }
 
 // The same for none, one or two.

@@ -19,7 +19,8 @@ pub fn large_buffer() -> [u8; 65536]
     [0; 65536]
 }
 
-// Reads until the buffer is full or the input ends, and answers how many bytes stand at the buffer's start.
+// Reads until the buffer is full or the input ends, and answers how many bytes stand at the buffer's start. Not a `for`: a read
+// gives as many bytes as it will, so there are no turns to count.
 fn fill<R: Read>(input: &mut R, buffer: &mut [u8]) -> io::Result<usize>
     ensures bound { ReadsAtMost result buffer.new }
     ensures bytes { IfOk result (λ n. Consumes (R.remaining input.old) (R.remaining input.new) (take n buffer.new)) }

@@ -5,16 +5,22 @@
 ghost use Rattle.std.specs.Prelude.{◌≤◌, length, IfOk, IfSome};
 
 use std::fs::File;
+use std::io;
 use std::io::Read;
 use std::rt::Files;
-use std::{io, str};
 
-// The number of so many hexadecimal digits; 0 where they are none.
+// The value of a hexadecimal digit; any other byte counts as 0.
+fn digit(b: u8) -> u32 {
+    match b {
+        b'0'..=b'9' => u32::from(b - b'0'),
+        b'a'..=b'f' => u32::from(b - b'a' + 10),
+        _ => 0,
+    }
+}
+
+// The number of at most eight hexadecimal digits.
 fn number(digits: &[u8]) -> u32 {
-    let Ok(text) = str::from_utf8(digits) else {
-        return 0;
-    };
-    u32::from_str_radix(text, 16).unwrap_or(0)
+    digits.iter().fold(0, |n, b| n << 4 | digit(*b))
 }
 
 // The next text, of that length, or what the file has left of it; nothing where the buffer is too small.

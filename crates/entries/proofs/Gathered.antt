@@ -5,7 +5,6 @@ use mathlib.Core.Bool.{Bool, false}
 use mathlib.Core.List.{List, []}
 use Rattle.plan.specs.declared.Form.{Form}
 use Rattle.plan.specs.declared.Form.TheVariants.{End}
-use Rattle.plan.specs.declared.Template.{Template}
 use denote.Ref.{Bor}
 use Rattle.std.specs.Prelude.{Result, Ok, Err}
 use Rattle.scan.specs.Bytes.{bytes}
@@ -14,7 +13,7 @@ use Rattle.text.specs.declared.Refused.{Refused}
 use Rattle.text.specs.Cursors.{stopped_at, opened, Answered, seen}
 use Rattle.text.proofs.Opening.{seen_value, seen_stop}
 use Rattle.field.specs.Fields.{mask, name, form, risk}
-use Rattle.text.specs.Reading.{Cursor, stopped, line, Entry, entry}
+use Rattle.text.specs.Reading.{Cursor, stopped, line, entry}
 
 -- The `name=` line, whose value is lent.
 module _ (stood : List (List ℕ)) (c next : Cursor) (r : Result (Bor (List ℕ)) Refused) (Gave : List ℕ → Result (Bor (List ℕ)) Refusal → Type 0)

@@ -1,6 +1,6 @@
 -- The names that stood, the last first; and a name read, in the order of its refusals.
 use Prim.Native.Nat.{ℕ}
-use mathlib.Core.Path.{◌≡◌, refl, sym, ap, ap₂, ◌∙◌}
+use mathlib.Core.Path.{◌≡◌, refl, sym, ap, ◌∙◌}
 use mathlib.Core.List.{List, [], ◌∷◌, ◌++◌}
 use mathlib.Core.Bool.{Bool, true, false, not, ◌||◌}
 use denote.Ref.{Bor}
@@ -8,7 +8,7 @@ use borrow.Author.Tests.{not-true, not-false}
 use Rattle.std.specs.List.{list_any}
 use Rattle.scan.specs.Bytes.{same, stands_in}
 use Rattle.lists.proofs.Tests.{told}
-use Rattle.field.specs.Fields.{Field, is, bad, name}
+use Rattle.field.specs.Fields.{is, bad, name}
 use Rattle.field.specs.Answers.{is_name}
 use Rattle.entries.specs.Entry.{latest}
 

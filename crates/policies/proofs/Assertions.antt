@@ -1,6 +1,6 @@
 -- The assertions of a policy in their row: the turns of the loop over them, and its ends.
 use Prim.Native.Nat.{ℕ, ◌+◌, ◌≤◌, ◌<◌}
-use mathlib.Core.Path.{◌≡◌, refl}
+use mathlib.Core.Path.{◌≡◌}
 use mathlib.Core.List.{List}
 use lib.ListN.{set, replicate}
 use Rattle.std.specs.Prelude.{Result, Ok, Err, IsErrAnd}

@@ -1,9 +1,9 @@
 -- A policy text that is too long, refused at a line or read to its end: a refused text hands back the blank policy.
 use Prim.Native.Nat.{ℕ, zero, suc, ◌-◌, ◌≤◌}
 use mathlib.Core.Path.{◌≡◌, refl, sym, ap, ◌∙◌}
-use mathlib.Core.List.{List, [], ◌∷◌, ◌++◌}
+use mathlib.Core.List.{List, ◌∷◌, ◌++◌}
 use native.Mathlib.Omega.{arith}
-use lib.ListN.{length, replicate}
+use lib.ListN.{replicate}
 use Rattle.std.specs.Prelude.{Result, Ok, Err, IsErrAnd}
 use Rattle.plan.specs.declared.{Policy.{Policy}, Assertion.{Assertion}}
 use Rattle.plan.specs.Plan.{blank_assertion}

@@ -1,7 +1,6 @@
 -- The lines of an assertion read one after the other are the definition's lines; at the first that is refused reading stops.
 use Prim.Native.Nat.{ℕ}
 use mathlib.Core.Path.{◌≡◌, refl}
-use mathlib.Core.List.{List}
 use Rattle.plan.specs.declared.Kind.{Kind}
 use Rattle.plan.specs.declared.Kind.TheVariants.{Secrecy}
 use Rattle.field.specs.Fields.{number, template_number, kind, declass}

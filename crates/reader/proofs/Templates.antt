@@ -1,7 +1,7 @@
 -- The templates of a plan in their row: the turns of the loop over them, and its ends.
 use Prim.Native.Nat.{ℕ, ◌+◌, ◌≤◌, ◌<◌}
-use mathlib.Core.Path.{◌≡◌, refl, sym, ap, ◌∙◌, subst}
-use mathlib.Core.List.{List, [], ◌∷◌, ◌++◌}
+use mathlib.Core.Path.{◌≡◌, sym, subst}
+use mathlib.Core.List.{List, [], ◌∷◌}
 use denote.Ref.{Bor}
 use lib.ListN.{length, take, set, replicate}
 use native.Mathlib.Omega.{arith}
@@ -9,8 +9,8 @@ use Rattle.std.proofs.lemmas.List.{take_more_set}
 use Rattle.std.specs.Prelude.{Result, Ok, Err, IsErrAnd}
 use Rattle.plan.specs.declared.Template.{Template}
 use Rattle.plan.specs.Plan.{blank}
-use Rattle.text.specs.Reading.{Cursor, stopped, Entry, entry}
-use Rattle.text.specs.Cursors.{stopped_at, Gives}
+use Rattle.text.specs.Reading.{Cursor, entry}
+use Rattle.text.specs.Cursors.{Gives}
 use Rattle.text.specs.declared.Refused.{Refused}
 use Rattle.text.proofs.Opening.{gives_value, gives_stop, handed_on, read_on}
 use Rattle.text.proofs.Passed.{entry-passes}

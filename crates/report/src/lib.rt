@@ -1,4 +1,5 @@
-// A verdict as the program judge prints it, written into a lent buffer.
+// A verdict as the program judge prints it, written into a lent buffer. Not a Display: this promises that it cannot fail and where
+// the bytes stand, which what `write!` promises does not say.
 #![tactic(auto)]
 
 ghost use Rattle.std.specs.Prelude.{◌≡◌, ◌++◌, ◌≤◌, ◌+◌, length, drop};

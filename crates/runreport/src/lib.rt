@@ -16,7 +16,7 @@ use std::io::Write;
 fn print_fault<W: Write>(out: &mut W, line: u64) -> io::Result<()>
     ensures { OnOk result (Appends (W.contents out.old) (W.contents out.new) (fault_line line)) }
 {
-    writeln!(out, "unread line={line}")
+    console::print_figure(out, b"unread line=", line)
 }
 
 // The answers, and then the state, or the line that is no call.
@@ -35,7 +35,7 @@ fn print_run<W: Write>(
     printout::print_state(out, state)
 }
 
-// The verdict as judge prints it.
+// The verdict as judge prints it, by way of the buffer that report writes into.
 fn print_verdict<W: Write>(out: &mut W, verdict: Verdict) -> io::Result<()>
     ensures { OnOk result (Appends (W.contents out.old) (W.contents out.new) (printed verdict)) }
 {

@@ -13,7 +13,11 @@ use Rattle.lists.proofs.Length.{get_or-same}
 use Rattle.lists.proofs.Tabulate.{tabulate_ext}
 use Rattle.plan.specs.declared.Plan.{Plan}
 use Rattle.plan.specs.Plan.{at}
-use Rattle.text.specs.Reading.{PlanRead, read_plan}
+use Rattle.std.specs.Prelude.{Result, Ok, Err}
+use Rattle.std.specs.Result.{result_unwrap_or}
+use Rattle.text.specs.declared.Refused.{Refused as RefusedLine}
+use Rattle.text.specs.Reading.{PlanRead, read_plan, no_plan}
+use Rattle.text.specs.Answers.{plan_read}
 use Rattle.reader.proofs.Range.{plan_in_range}
 use Rattle.planrow.specs.Row.{plan_of_row, row_of_plan}
 use Rattle.planrow.proofs.RoundTrip.{round_trip}
@@ -66,6 +70,10 @@ stays_blank Accepted n plan = absurd (n refl)
 stays_blank (Broken b) n plan = refl
 stays_blank (Unread f) n plan = refl
 
+or_no_plan : (read : Result Plan RefusedLine) → result_unwrap_or read no_plan ≡ (plan_read read).plan
+or_no_plan (Ok p) = refl
+or_no_plan (Err r) = refl
+
 module _ (plan_text policy_text : List ℕ) (v : Verdict) (ev : v ≡ judge plan_text policy_text) (g : Bool) (eg : g ≡ accepted v) where
   abbrev Begun : State → Type 0
   Begun s = (v ≡ judge plan_text policy_text) × (machine_of s ≡ started plan_text policy_text) × (s ≡ started_state plan_text policy_text)
@@ -79,11 +87,13 @@ module _ (plan_text policy_text : List ℕ) (v : Verdict) (ev : v ≡ judge plan
   pub started_not : not g ≡ true → (s : State) → s ≡ blank_state → Begun s
   started_not h s e = begun s (e ∙ sym (stays_blank v (not_accepted v (sym eg ∙ not-true g h)) (read_plan plan_text).plan))
 
-  pub started_so : not g ≡ false → (read : PlanRead) → read ≡ read_plan plan_text → (s : State) → s ≡ root_state read.plan → Begun s
+  -- read is the answer of `read_plan`, none the blank plan, and p the one of them that is there.
+  pub started_so : not g ≡ false → (read : Result Plan RefusedLine) → plan_read read ≡ read_plan plan_text → (none p : Plan) → none ≡ no_plan
+      → p ≡ result_unwrap_or read none → (s : State) → s ≡ root_state p → Begun s
   unfolding state_on
-  started_so h read er s e =
+  started_so h read er none p en ep s e =
       begun s
-      (e ∙ ap (λ (r : PlanRead). root_state r.plan) er
+      (e ∙ ap root_state (ep ∙ ap (result_unwrap_or read) en ∙ or_no_plan read) ∙ ap (λ (r : PlanRead). root_state r.plan) er
       ∙ ap (λ (v : Verdict). state_on v (read_plan plan_text).plan) (sym (accepted_is v (sym eg ∙ not-false g h))))
 
 -- ---- the row of a started plan

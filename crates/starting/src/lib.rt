@@ -2,24 +2,31 @@
 #![tactic(auto)]
 
 ghost use Rattle.std.specs.Prelude.{◌≡◌};
+ghost use Rattle.text.specs.Reading.{no_plan};
 ghost use Rattle.rules.specs.Judge.{judge};
 ghost use Rattle.machine.specs.State.{machine_of, blank_state, root_state, started, started_state};
 
 use machine::{Started, State};
 use plan::{Plan, Template};
 
+// The plan that a refused text hands back.
+fn no_plan() -> Plan
+    ensures { result ≡ no_plan }
+{
+    Plan {
+        count: 0,
+        identifiers: 0,
+        templates: [Template::default(); 64],
+    }
+}
+
 // What stands beside a verdict that is not accepted: the documents promise the blank state, so start hands back a struct and no
 // Result.
 fn blank_state() -> State
     ensures { result ≡ blank_state }
 {
-    let blank = Template::default();
     State {
-        plan: Plan {
-            count: 0,
-            identifiers: 0,
-            templates: [blank; 64],
-        },
+        plan: no_plan(),
         next: 0,
         live: 0,
         serials: [0; 128],
@@ -54,7 +61,7 @@ pub fn start<'a>(plan: &'a [u8], policy: &'a [u8]) -> Started
         let state = blank_state();
         return Started { verdict, state };
     }
-    let read = reader::read_plan(plan);
-    let state = root_state(read.plan);
+    let read = reader::read_plan(plan).unwrap_or(no_plan());
+    let state = root_state(read);
     Started { verdict, state }
 }

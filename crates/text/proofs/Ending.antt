@@ -7,7 +7,7 @@ use mathlib.Core.List.{List}
 use lib.Dec.{leb}
 use lib.ListN.{length}
 use Rattle.std.specs.Prelude.{Result, Ok, Err, IsErrAnd}
-use Rattle.text.specs.Reading.{longest, Reading, Complete, Refused, Cursor, on, Step, Reader, closed, checked, if_complete}
+use Rattle.text.specs.Reading.{longest, Reading, Complete, Refused, Cursor, on, Reader, closed, checked, if_complete}
 use Rattle.text.specs.Answers.{refusal_of, reading_of}
 use Rattle.text.specs.Cursors.{standing, stopped_at, Started}
 use Rattle.text.specs.declared.Refused.{Refused as RefusedLine}

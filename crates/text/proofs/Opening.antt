@@ -1,16 +1,15 @@
 -- A line opened and read, over plain variables: `search` finds the premises in what the code has shown.
 use Prim.Native.Nat.{ℕ, ◌+◌, ◌-◌, ◌≤◌, ◌<◌}
-use mathlib.Core.Path.{◌≡◌, refl, sym, ap, ap₂, ◌∙◌, subst}
+use mathlib.Core.Path.{◌≡◌, refl, sym, ap, ◌∙◌, subst}
 use mathlib.Core.List.{List, [], ◌∷◌}
-use mathlib.Core.Bool.{Bool, true, false, not, cond, ◌&&◌, true≢false}
+use mathlib.Core.Bool.{Bool, true, false, not, true≢false}
 use native.Mathlib.Omega.{arith}
-use lib.ListN.{length, take, drop, length-take, length-drop}
-use lib.Dec.{leb, ltb}
+use lib.ListN.{length, take, drop, length-take}
 use denote.Ref.{Bor}
 use Prim.Native.String.{String}
 use Rattle.std.specs.Prelude.{◌==◌, Option, Some, None, Result, Ok, Err, IsErrAnd}
 use borrow.Author.Tests.{lt-ltb, le-ltb, lt-leb, le-leb, eqb-true, not-true, not-false}
-use Rattle.lists.proofs.Tests.{and_both, told}
+use Rattle.lists.proofs.Tests.{told}
 use Rattle.scan.specs.Bytes.{bytes, before, starts_with}
 use Rattle.scan.proofs.Parts.{rest_of, drop-take}
 use Rattle.scan.proofs.Steps.{starts_long}

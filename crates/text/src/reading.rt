@@ -2,12 +2,22 @@
 
 ghost use Rattle.std.specs.Prelude.{◌≡◌, ◌+◌, IfSome};
 ghost use Rattle.std.specs.Fn.{FnOnceReturnsAt};
+ghost use Rattle.field.specs.Answers.{numbered};
 ghost use Rattle.text.specs.Reading.{closed};
 ghost use Rattle.text.specs.Answers.{reading_of};
 ghost use Rattle.text.specs.Cursors.{standing, Started, opened, opened_of, Answered};
 
 use crate::{LONGEST, Lines, Refused};
 use field::Refusal;
+
+impl Refused {
+    // Document 01's number of the refusal.
+    pub fn number(self) -> u8
+        ensures { result ≡ numbered self.refusal }
+    {
+        u8::from(self.refusal)
+    }
+}
 
 impl<'a> Lines<'a> {
     // The first line of a text that is not too long.
@@ -47,7 +57,7 @@ impl<'a> Lines<'a> {
         Some((&text[key.len()..end], next))
     }
 
-    // One line: its key, and its field as it is read. A refused line names itself, and reading stays on it.
+    // One line: its key, and its field as it is read; or why the line is refused.
     pub fn field<T, F: FnOnce(&'a [u8]) -> Result<T, Refusal>>(
         &mut self,
         key: &[u8],

@@ -1,6 +1,6 @@
--- The lowest offending identifier is none of the plan's.
+-- No offending identifier is one of the plan's.
 use Rattle.admission.proofs.Refusals.{fits_one}
 use Rattle.admission.proofs.is_fitting.Goals as goal
 
 pub returns : goal.returns
-returns c = search fits_one
+returns c = fits_one _ _ _ _ _ _ c.offences.ensures c.lowest_below.ensures.lowest _ c.is_none.ensures

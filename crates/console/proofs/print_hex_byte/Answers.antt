@@ -1,8 +1,8 @@
 -- What `{:02x}` writes of a byte is its two digits.
-use Rattle.std.proofs.Common.{◌≡◌, ℕ, ◌+◌, ◌<◌, ◌^◌, ◌-◌, ◌/◌, ◌%◌, ◌∷◌, false, [], nat_lt, rules, arith, subst, sym, ap, ◌∙◌, refl}
-use Rattle.std.specs.Fmt.{digits, padded_integral, format_spec, digit_glyph}
+use Rattle.std.proofs.Common.{◌≡◌, ℕ, ◌/◌, ◌%◌, false, rules, arith, sym}
+use Rattle.std.specs.Fmt.{digit_glyph}
 use Rattle.std.proofs.lemmas.Fmt.{hex_byte}
-use Rattle.console.specs.Hexadecimal.{hex_digit_of, hex_byte_of}
+use Rattle.console.specs.Hexadecimal.{hex_digit_of}
 use Rattle.console.proofs.print_hex_byte.Goals as goal
 
 glyph : (d : ℕ) → digit_glyph false d ≡ hex_digit_of d

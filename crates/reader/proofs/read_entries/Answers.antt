@@ -1,5 +1,5 @@
 -- After i templates what is left to fill leads to the same end.
-use Rattle.std.proofs.Common.{rules, refl, ◌∙◌, length-set}
+use Rattle.std.proofs.Common.{refl, ◌∙◌, length-set}
 use Rattle.reader.proofs.Templates.{filling_first, filling_next, filling_stop, filling_last}
 use Rattle.reader.proofs.read_entries.Goals as goal
 

@@ -10,4 +10,4 @@ returns-then-not-is_accepted c = started_not _ _ _ c.judge-verdict.ensures _ c.i
 
 pub returns : goal.returns
 returns c = started_so _ _ _ c.judge-verdict.ensures _ c.is_accepted.ensures
-    (ap not c.if-not-is_accepted.false) _ c.read_plan-read.ensures _ c.root_state-state.ensures
+    (ap not c.if-not-is_accepted.false) _ c.read_plan.ensures _ _ c.no_plan.ensures c.unwrap_or-read.ensures _ c.root_state-state.ensures
