@@ -5,9 +5,7 @@ use mathlib.Core.Logic.{⊎_elim}
 use mathlib.Core.Bool.{Bool, true, false, not, cond, ◌&&◌, ◌||◌}
 use native.Mathlib.Omega.{arith}
 use lib.Dec.{ltb}
-use Rattle.std.specs.Prelude.{Option, Some, None, is_some, IfSome}
-use mir.Syntax.{w8}
-use mir.Val.{Fits}
+use Rattle.std.specs.Prelude.{Option, Some, None}
 use lib.Bits.{bit_and, bit_or}
 use borrow.Author.Tests.{ltb-true, lt-ltb, le-ltb, ltb-false}
 use Rattle.lists.specs.Numbers.{lowest}
@@ -75,17 +73,6 @@ module _ (limit : ℕ) (test : ℕ → Bool) (o : Option ℕ) (e : o ≡ lowest_
 
   pub none_lowest : o ≡ None → limit ≤ lowest limit test
   none_lowest h = ltb-false (lowest limit test) limit (none_is (ltb (lowest limit test) limit) (lowest limit test) (sym e ∙ h))
-
-  pub is_some_lowest : is_some o ≡ ltb (lowest limit test) limit
-  is_some_lowest = ap (λ (o : Option ℕ). is_some o) e ∙ go (ltb (lowest limit test) limit)
-    where
-      go : (b : Bool) → is_some (cond b (Some (lowest limit test)) None) ≡ b
-      go true = refl
-      go false = refl
-
--- Found, it is a byte.
-pub item_room : (o : Option ℕ) (i : ℕ) → IfSome o (λ i. i < 32) → o ≡ Some i → Fits w8 i
-item_room o i low e = let l : i < 32 = subst (λ (o : Option ℕ). IfSome o (λ i. i < 32)) e low in omega arith
 
 -- The lowest item of the mask of a test is the lowest that passes.
 pub lowest_marked : (limit m : ℕ) (test : ℕ → Bool) → Marks m test → lowest limit (λ i. has i m) ≡ lowest limit test

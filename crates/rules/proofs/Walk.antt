@@ -111,10 +111,7 @@ accepted_is Accepted e = refl
 accepted_is (Broken b) e = absurd (false≢true e)
 accepted_is (Unread f) e = absurd (false≢true e)
 
-pub or_passed : (v w : Verdict) (a : Bool) → a ≡ accepted v → a ≡ true → w ≡ or_else v w
-or_passed v w a t e = or_second v w (accepted_is v (sym t ∙ e))
-
-pub or_stopped : (v w : Verdict) (a : Bool) → a ≡ accepted v → a ≡ false → v ≡ or_else v w
+or_stopped : (v w : Verdict) (a : Bool) → a ≡ accepted v → a ≡ false → v ≡ or_else v w
 unfolding accepted or_else
 or_stopped Accepted w a t e = absurd (false≢true (sym e ∙ t))
 or_stopped (Broken b) w a t e = refl
