@@ -2,26 +2,7 @@
 // leading zeros, one space apart.
 #![tactic(auto)]
 
-// A call and its two numbers.
-#[derive(Clone, Copy)]
-pub enum Call {
-    Step(u32, u32),
-    Send(u32, u32),
-    Raise(u32, u32),
-    Lower(u32, u32),
-}
-
-// The three words of a call: its kind as document 01 numbers it, and its numbers.
-impl From<Call> for [u32; 3] {
-    fn from(call: Call) -> [u32; 3] {
-        match call {
-            Call::Step(serial, branch) => [0, serial, branch],
-            Call::Send(from, to) => [1, from, to],
-            Call::Raise(serial, identifier) => [2, serial, identifier],
-            Call::Lower(serial, identifier) => [3, serial, identifier],
-        }
-    }
-}
+use dispatch::Call;
 
 // One digit more.
 fn with_digit(value: u32, b: u8) -> Option<u32> {
@@ -50,10 +31,10 @@ pub fn read_line(s: &[u8]) -> Option<Call> {
     let x = read_number(first)?;
     let y = read_number(second)?;
     match word {
-        b"step" => Some(Call::Step(x, y)),
-        b"send" => Some(Call::Send(x, y)),
-        b"raise" => Some(Call::Raise(x, y)),
-        b"lower" => Some(Call::Lower(x, y)),
+        b"step" => Some(Call::Step { serial: x, branch: y }),
+        b"send" => Some(Call::Send { from: x, to: y }),
+        b"raise" => Some(Call::Raise { serial: x, identifier: y }),
+        b"lower" => Some(Call::Lower { serial: x, identifier: y }),
         _ => None,
     }
 }

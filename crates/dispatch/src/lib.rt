@@ -8,7 +8,7 @@ ghost use Rattle.planrow.specs.Lookup.{plan_for};
 ghost use Rattle.population.specs.Arrays.{cells};
 ghost use Rattle.population.specs.Lent.{Tried, Did};
 ghost use Rattle.population.specs.Refusals.{settled_or};
-ghost use Rattle.dispatch.specs.Calls.{meant};
+ghost use Rattle.dispatch.specs.Calls.{meant, words_of};
 
 use machine::Answer;
 use planrow::WORDS;
@@ -42,6 +42,20 @@ impl From<[u32; 3]> for Call {
                 serial: x,
                 identifier: y,
             },
+        }
+    }
+}
+
+// Its three words.
+impl From<Call> for [u32; 3] {
+    ghost from_gives = { λ call words. words ≡ words_of call };
+
+    fn from(call: Call) -> [u32; 3] {
+        match call {
+            Call::Step { serial, branch } => [0, serial, branch],
+            Call::Send { from, to } => [1, from, to],
+            Call::Raise { serial, identifier } => [2, serial, identifier],
+            Call::Lower { serial, identifier } => [3, serial, identifier],
         }
     }
 }

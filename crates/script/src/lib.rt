@@ -3,7 +3,7 @@
 
 ghost use Rattle.std.specs.Prelude.{◌≤◌, ◌≡◌, length};
 
-use callline::Call;
+use dispatch::Call;
 
 // The longest text of calls.
 const LONGEST: usize = 65536;
