@@ -49,12 +49,12 @@ pub fn is_passed(
 }
 
 // Document 01, Send: 21 if either is not live; 26 if equal; else delivered exactly when the labels and tags allow.
-pub fn attempt<'a>(
-    row: &'a [u32; WORDS],
+pub fn attempt(
+    row: &[u32; WORDS],
     live: u32,
-    serials: &'a [u32; 128],
-    labels: &'a [u32; 128],
-    tags: &'a [u32; 4096],
+    serials: &[u32; 128],
+    labels: &[u32; 128],
+    tags: &[u32; 4096],
     from: u32,
     to: u32,
 ) -> Result<Answer, Refusal>

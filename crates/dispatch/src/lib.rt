@@ -62,14 +62,14 @@ impl From<Call> for [u32; 3] {
 
 // One call, of a state that is not bad.
 #[tactic(auto, unfolding(labelling::specs::Labelling::moves))]
-fn attempt<'a>(
-    row: &'a [u32; WORDS],
+fn attempt(
+    row: &[u32; WORDS],
     next: u32,
     live: u32,
-    serials: &'a mut [u32; 128],
-    templates: &'a mut [u32; 128],
-    labels: &'a mut [u32; 128],
-    tags: &'a mut [u32; 4096],
+    serials: &mut [u32; 128],
+    templates: &mut [u32; 128],
+    labels: &mut [u32; 128],
+    tags: &mut [u32; 4096],
     call: Call,
 ) -> Result<Settled, Refusal>
     ensures { let plan = plan_for row.now in
@@ -103,14 +103,14 @@ fn attempt<'a>(
 }
 
 // One call: 20 stands before every other refusal.
-pub fn run_call<'a>(
-    row: &'a [u32; WORDS],
+pub fn run_call(
+    row: &[u32; WORDS],
     next: u32,
     live: u32,
-    serials: &'a mut [u32; 128],
-    templates: &'a mut [u32; 128],
-    labels: &'a mut [u32; 128],
-    tags: &'a mut [u32; 4096],
+    serials: &mut [u32; 128],
+    templates: &mut [u32; 128],
+    labels: &mut [u32; 128],
+    tags: &mut [u32; 4096],
     call: Call,
 ) -> Settled
     ensures { let plan = plan_for row.now in

@@ -14,7 +14,7 @@ ghost use Rattle.embed.specs.Embed.{Starts, ReplayedAll};
 use planrow::WORDS;
 
 // Unread, broken or accepted.
-pub fn monitor_judge<'a>(plan: &'a [u8], policy: &'a [u8], words: &'a mut [u32; 5])
+pub fn monitor_judge(plan: &[u8], policy: &[u8], words: &mut [u32; 5])
     ensures { words.new ≡ numbers_of (judge plan.now policy.now) }
 {
     let verdict = verdict::judge(plan, policy);
@@ -22,7 +22,7 @@ pub fn monitor_judge<'a>(plan: &'a [u8], policy: &'a [u8], words: &'a mut [u32; 
 }
 
 // Where the part lies that the verdict shows.
-pub fn monitor_locate<'a>(plan: &'a [u8], policy: &'a [u8], words: &'a mut [usize; 3])
+pub fn monitor_locate(plan: &[u8], policy: &[u8], words: &mut [usize; 3])
     ensures { words.new ≡ part_words (locate plan.now policy.now) }
 {
     let part = showing::locate(plan, policy);
@@ -30,16 +30,16 @@ pub fn monitor_locate<'a>(plan: &'a [u8], policy: &'a [u8], words: &'a mut [usiz
 }
 
 // Judges both texts; writes the verdict, and the started state, blank where it is not accepted.
-pub fn monitor_start<'a>(
-    plan: &'a [u8],
-    policy: &'a [u8],
-    words: &'a mut [u32; 5],
-    row: &'a mut [u32; WORDS],
-    place: &'a mut [u32; 2],
-    serials: &'a mut [u32; 128],
-    templates: &'a mut [u32; 128],
-    labels: &'a mut [u32; 128],
-    tags: &'a mut [u32; 4096],
+pub fn monitor_start(
+    plan: &[u8],
+    policy: &[u8],
+    words: &mut [u32; 5],
+    row: &mut [u32; WORDS],
+    place: &mut [u32; 2],
+    serials: &mut [u32; 128],
+    templates: &mut [u32; 128],
+    labels: &mut [u32; 128],
+    tags: &mut [u32; 4096],
 )
     ensures { let k = held place.new serials.new templates.new labels.new tags.new in
         Starts plan.now policy.now words.new row.new k }
@@ -61,13 +61,13 @@ pub fn monitor_start<'a>(
 }
 
 // One call: its kind (0 step, 1 send, 2 raise, any other number lower) and its two numbers.
-pub fn monitor_call<'a>(
-    row: &'a [u32; WORDS],
-    place: &'a mut [u32; 2],
-    serials: &'a mut [u32; 128],
-    templates: &'a mut [u32; 128],
-    labels: &'a mut [u32; 128],
-    tags: &'a mut [u32; 4096],
+pub fn monitor_call(
+    row: &[u32; WORDS],
+    place: &mut [u32; 2],
+    serials: &mut [u32; 128],
+    templates: &mut [u32; 128],
+    labels: &mut [u32; 128],
+    tags: &mut [u32; 4096],
     kind: u32,
     x: u32,
     y: u32,
@@ -80,15 +80,15 @@ pub fn monitor_call<'a>(
 }
 
 // A list of calls, three words each, run through the lent state; as many as there are words and places for.
-pub fn monitor_run<'a>(
-    row: &'a [u32; WORDS],
-    place: &'a mut [u32; 2],
-    serials: &'a mut [u32; 128],
-    templates: &'a mut [u32; 128],
-    labels: &'a mut [u32; 128],
-    tags: &'a mut [u32; 4096],
-    calls: &'a [u32],
-    answers: &'a mut [u8],
+pub fn monitor_run(
+    row: &[u32; WORDS],
+    place: &mut [u32; 2],
+    serials: &mut [u32; 128],
+    templates: &mut [u32; 128],
+    labels: &mut [u32; 128],
+    tags: &mut [u32; 4096],
+    calls: &[u32],
+    answers: &mut [u8],
 ) -> usize
     ensures { let h = held place.old serials.old templates.old labels.old tags.old in
         let k = held place.new serials.new templates.new labels.new tags.new in
@@ -98,12 +98,12 @@ pub fn monitor_run<'a>(
 }
 
 // Both texts judged, the box started, and the calls run through it.
-pub fn monitor_replay<'a>(
-    plan: &'a [u8],
-    policy: &'a [u8],
-    calls: &'a [u32],
-    answers: &'a mut [u8],
-    words: &'a mut [u32; 5],
+pub fn monitor_replay(
+    plan: &[u8],
+    policy: &[u8],
+    calls: &[u32],
+    answers: &mut [u8],
+    words: &mut [u32; 5],
 ) -> usize
     ensures { ReplayedAll plan.now policy.now calls.now answers.old words.new result answers.new }
 {

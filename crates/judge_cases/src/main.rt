@@ -13,7 +13,7 @@ fn print_bytes<W: Write>(out: &mut W, part: &[u8]) -> io::Result<()> {
     Ok(())
 }
 
-fn print_case<'a, W: Write>(out: &mut W, plan: &'a [u8], policy: &'a [u8]) -> io::Result<()> {
+fn print_case<W: Write>(out: &mut W, plan: &[u8], policy: &[u8]) -> io::Result<()> {
     let part = showing::locate(plan, policy);
     write!(out, "{} ", Brief(verdict::judge(plan, policy)))?;
     write!(out, "{} {} {} ", Name(part.text), part.start, part.end)?;

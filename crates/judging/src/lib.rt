@@ -11,7 +11,7 @@ use std::io::Write;
 use std::rt::Files;
 
 // How many bytes judge prints of two texts; they stand at the buffer's start.
-pub fn judge_texts<'a>(plan: &'a [u8], policy: &'a [u8], out: &'a mut [u8; ROOM]) -> usize
+pub fn judge_texts(plan: &[u8], policy: &[u8], out: &mut [u8; ROOM]) -> usize
     ensures value { (result ≡ length (printed (judge plan.now policy.now))) × (out.new ≡ printed (judge plan.now policy.now) ++ drop result out.old) }
     ensures room { result ≤ length out.new }
 {
@@ -19,7 +19,7 @@ pub fn judge_texts<'a>(plan: &'a [u8], policy: &'a [u8], out: &'a mut [u8; ROOM]
 }
 
 // Prints the verdict on two texts.
-pub fn print_judged<'a, W: Write>(out: &mut W, plan: &'a [u8], policy: &'a [u8]) -> io::Result<()>
+pub fn print_judged<W: Write>(out: &mut W, plan: &[u8], policy: &[u8]) -> io::Result<()>
     ensures { OnOk result (Appends (W.contents out.old) (W.contents out.new) (printed (judge plan.now policy.now))) }
 {
     let mut text = [0u8; ROOM];

@@ -60,12 +60,12 @@ fn label_with(present: bool, label: u32, i: u32) -> u32
 
 // Document 01, Raise and lower: 21; 27 if the identifier is not below M; 28 if the template is not at risk; 29 if not in
 // pos, of a raise, or neg. A row of more than 32 identifiers means a bad state, and no mask has them.
-pub fn attempt<'a>(
-    row: &'a [u32; WORDS],
+pub fn attempt(
+    row: &[u32; WORDS],
     live: u32,
-    serials: &'a [u32; 128],
-    templates: &'a [u32; 128],
-    labels: &'a mut [u32; 128],
+    serials: &[u32; 128],
+    templates: &[u32; 128],
+    labels: &mut [u32; 128],
     serial: u32,
     identifier: u32,
     present: bool,

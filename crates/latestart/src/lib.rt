@@ -7,12 +7,12 @@ use std::io;
 use std::io::Write;
 
 // The calls played from that next serial on.
-fn replay_from<'a>(
-    plan: &'a [u8],
-    policy: &'a [u8],
+fn replay_from(
+    plan: &[u8],
+    policy: &[u8],
     next: u32,
-    calls: &'a [u32],
-    answers: &'a mut [u8],
+    calls: &[u32],
+    answers: &mut [u8],
 ) -> Replayed {
     let started = starting::start(plan, policy);
     let verdict = started.verdict;
@@ -28,11 +28,11 @@ fn replay_from<'a>(
 }
 
 // What replay prints, from that next serial on.
-pub fn print_replay_from<'a, W: Write>(
+pub fn print_replay_from<W: Write>(
     out: &mut W,
-    plan: &'a [u8],
-    policy: &'a [u8],
-    calls: &'a [u8],
+    plan: &[u8],
+    policy: &[u8],
+    calls: &[u8],
     next: u32,
 ) -> io::Result<()> {
     if next == 1 {

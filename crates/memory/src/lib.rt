@@ -10,13 +10,13 @@ use dispatch::Call;
 use planrow::WORDS;
 
 // One call on a plan's row and the lent state.
-pub fn call<'a>(
-    row: &'a [u32; WORDS],
-    place: &'a mut [u32; 2],
-    serials: &'a mut [u32; 128],
-    templates: &'a mut [u32; 128],
-    labels: &'a mut [u32; 128],
-    tags: &'a mut [u32; 4096],
+pub fn call(
+    row: &[u32; WORDS],
+    place: &mut [u32; 2],
+    serials: &mut [u32; 128],
+    templates: &mut [u32; 128],
+    labels: &mut [u32; 128],
+    tags: &mut [u32; 4096],
     kind: u32,
     x: u32,
     y: u32,
@@ -33,15 +33,15 @@ pub fn call<'a>(
 }
 
 // A list of calls, three words each; as many as there are words and places for.
-pub fn run<'a>(
-    row: &'a [u32; WORDS],
-    place: &'a mut [u32; 2],
-    serials: &'a mut [u32; 128],
-    templates: &'a mut [u32; 128],
-    labels: &'a mut [u32; 128],
-    tags: &'a mut [u32; 4096],
-    calls: &'a [u32],
-    answers: &'a mut [u8],
+pub fn run(
+    row: &[u32; WORDS],
+    place: &mut [u32; 2],
+    serials: &mut [u32; 128],
+    templates: &mut [u32; 128],
+    labels: &mut [u32; 128],
+    tags: &mut [u32; 4096],
+    calls: &[u32],
+    answers: &mut [u8],
 ) -> usize
     ensures { let h = held place.old serials.old templates.old labels.old tags.old in
         let k = held place.new serials.new templates.new labels.new tags.new in

@@ -94,15 +94,15 @@ pub fn settle(answer: Answer, next: u32, live: u32) -> Settled
 // The processes' part of refusal 20, of parts of any length: N templates, M identifiers.
 // Here and in the crates above next, live and the four arrays are parameters of their own: the C interface lends them apart, and
 // a struct of the arrays would owe in each contract that its fields still hold the same references.
-pub fn are_fitting<'a>(
+pub fn are_fitting(
     count: u32,
     m: u32,
     next: u32,
     live: u32,
-    serials: &'a [u32],
-    templates: &'a [u32],
-    labels: &'a [u32],
-    tags: &'a [u32],
+    serials: &[u32],
+    templates: &[u32],
+    labels: &[u32],
+    tags: &[u32],
 ) -> bool
     ensures { let c = cells serials.now templates.now labels.now tags.now in
         result ≡ parts_fit count m next live c }
@@ -117,14 +117,14 @@ pub fn are_fitting<'a>(
 }
 
 // Whether what these stand for is no bad state: refusal 20, on the whole of it.
-pub fn is_well_formed<'a>(
-    row: &'a [u32; WORDS],
+pub fn is_well_formed(
+    row: &[u32; WORDS],
     next: u32,
     live: u32,
-    serials: &'a [u32; 128],
-    templates: &'a [u32; 128],
-    labels: &'a [u32; 128],
-    tags: &'a [u32; 4096],
+    serials: &[u32; 128],
+    templates: &[u32; 128],
+    labels: &[u32; 128],
+    tags: &[u32; 4096],
 ) -> bool
     ensures { let c = cells serials.now templates.now labels.now tags.now in
         result ≡ well_formed box_limits (machine_from (plan_for row.now) next live c) }

@@ -16,7 +16,7 @@ pub struct Ran {
 }
 
 // The calls in order on the state, the answers written to the row: its arrays are lent, and the state is built again.
-pub fn play<'a>(state: State, calls: &'a [u32], answers: &'a mut [u8]) -> Ran
+pub fn play(state: State, calls: &[u32], answers: &mut [u8]) -> Ran
     ensures { PlayedAll machine_of (Does machine_of) calls.now state answers.old result.count result.state answers.new }
 {
     let plan = state.plan;
@@ -61,11 +61,11 @@ pub struct Replayed {
 }
 
 // Both texts judged, the box started, and the calls run through it, the answers written to the row.
-pub fn replay<'a>(
-    plan: &'a [u8],
-    policy: &'a [u8],
-    calls: &'a [u32],
-    answers: &'a mut [u8],
+pub fn replay(
+    plan: &[u8],
+    policy: &[u8],
+    calls: &[u32],
+    answers: &mut [u8],
 ) -> Replayed
     ensures { Replays plan.now policy.now calls.now answers.old result.verdict result.count result.state answers.new }
 {

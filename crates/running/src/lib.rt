@@ -38,16 +38,16 @@ fn call_count(words: usize, places: usize) -> usize
 }
 
 // The calls in order, as many as there are words and places for.
-pub fn run_calls<'a>(
-    row: &'a [u32; WORDS],
+pub fn run_calls(
+    row: &[u32; WORDS],
     next: u32,
     live: u32,
-    serials: &'a mut [u32; 128],
-    templates: &'a mut [u32; 128],
-    labels: &'a mut [u32; 128],
-    tags: &'a mut [u32; 4096],
-    calls: &'a [u32],
-    answers: &'a mut [u8],
+    serials: &mut [u32; 128],
+    templates: &mut [u32; 128],
+    labels: &mut [u32; 128],
+    tags: &mut [u32; 4096],
+    calls: &[u32],
+    answers: &mut [u8],
 ) -> Place
     ensures { let met = memory next live serials.old templates.old labels.old tags.old in
         let left = memory result.next result.live serials.new templates.new labels.new tags.new in

@@ -9,7 +9,7 @@ use std::io;
 use std::io::Write;
 
 // The part that the verdict on two texts points at, and byte 10.
-fn print_shown<'a, W: Write>(out: &mut W, plan: &'a [u8], policy: &'a [u8]) -> io::Result<()>
+fn print_shown<W: Write>(out: &mut W, plan: &[u8], policy: &[u8]) -> io::Result<()>
     ensures { OnOk result (Appends (W.contents out.old) (W.contents out.new) (shown plan.now policy.now ++ 10 ∷ [])) }
 {
     console::print(out, showing::show(plan, policy))?;

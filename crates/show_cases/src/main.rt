@@ -9,7 +9,7 @@ use std::io;
 use std::io::Write;
 
 // As the program show does; no crate below both has what they print with.
-fn print_case<'a, W: Write>(out: &mut W, plan: &'a [u8], policy: &'a [u8]) -> io::Result<()>
+fn print_case<W: Write>(out: &mut W, plan: &[u8], policy: &[u8]) -> io::Result<()>
     ensures { OnOk result (Appends (W.contents out.old) (W.contents out.new) (shown plan.now policy.now ++ 10 ∷ [])) }
 {
     console::print(out, showing::show(plan, policy))?;

@@ -11,14 +11,14 @@ ghost use Rattle.spawning.specs.Spawning.{skipping, Entered, Room, Advanced};
 use population::{Child, Children};
 
 // The process at place k goes: those above it, up to the last, move down.
-fn leave<'a>(
+fn leave(
     m: u32,
     k: u32,
     last: u32,
-    serials: &'a mut [u32; 128],
-    templates: &'a mut [u32; 128],
-    labels: &'a mut [u32; 128],
-    tags: &'a mut [u32; 4096],
+    serials: &mut [u32; 128],
+    templates: &mut [u32; 128],
+    labels: &mut [u32; 128],
+    tags: &mut [u32; 4096],
 )
     ensures { let c = cells serials.old templates.old labels.old tags.old in
         let d = cells serials.new templates.new labels.new tags.new in
@@ -35,17 +35,17 @@ fn leave<'a>(
 }
 
 // A child comes to the place after the others, if it is to come; row holds its parent's tags.
-fn enter<'a>(
+fn enter(
     comes: bool,
     m: u32,
     at: u32,
     serial: u32,
     child: Child,
     row: [u32; 32],
-    serials: &'a mut [u32; 128],
-    templates: &'a mut [u32; 128],
-    labels: &'a mut [u32; 128],
-    tags: &'a mut [u32; 4096],
+    serials: &mut [u32; 128],
+    templates: &mut [u32; 128],
+    labels: &mut [u32; 128],
+    tags: &mut [u32; 4096],
 )
     ensures { let c = cells serials.old templates.old labels.old tags.old in
         let d = cells serials.new templates.new labels.new tags.new in
@@ -63,16 +63,16 @@ fn enter<'a>(
 
 // Document 01, Step: "Else the process goes". Its children come, the first with the lower serial; their parent's tags are
 // copied before it goes.
-pub fn advance<'a>(
+pub fn advance(
     m: u32,
     next: u32,
     k: u32,
     last: u32,
     children: Children,
-    serials: &'a mut [u32; 128],
-    templates: &'a mut [u32; 128],
-    labels: &'a mut [u32; 128],
-    tags: &'a mut [u32; 4096],
+    serials: &mut [u32; 128],
+    templates: &mut [u32; 128],
+    labels: &mut [u32; 128],
+    tags: &mut [u32; 4096],
 )
     ensures { let c = cells serials.old templates.old labels.old tags.old in
         let d = cells serials.new templates.new labels.new tags.new in

@@ -53,7 +53,7 @@ fn root_state(plan: Plan) -> State
 }
 
 // Document 01, Start: it "judges both texts and gives the judge's answer if not accepted".
-pub fn start<'a>(plan: &'a [u8], policy: &'a [u8]) -> Started
+pub fn start(plan: &[u8], policy: &[u8]) -> Started
     ensures { (result.verdict ≡ judge plan.now policy.now) × (machine_of result.state ≡ started plan.now policy.now) × (result.state ≡ started_state plan.now policy.now) }
 {
     let verdict = verdict::judge(plan, policy);

@@ -14,16 +14,16 @@ use planrow::WORDS;
 use population::{Child, Children, Refusal, Settled};
 
 // The step of the process at place k. A row of more than 32 identifiers means a bad state, whose tags have no places.
-fn step_at<'a>(
-    row: &'a [u32; WORDS],
+fn step_at(
+    row: &[u32; WORDS],
     next: u32,
     live: u32,
     k: usize,
     branch: u32,
-    serials: &'a mut [u32; 128],
-    templates: &'a mut [u32; 128],
-    labels: &'a mut [u32; 128],
-    tags: &'a mut [u32; 4096],
+    serials: &mut [u32; 128],
+    templates: &mut [u32; 128],
+    labels: &mut [u32; 128],
+    tags: &mut [u32; 4096],
 ) -> Result<Settled, Refusal>
     requires { (k < live) × (live ≤ 128) }
     ensures { let plan = plan_for row.now in
@@ -60,14 +60,14 @@ fn step_at<'a>(
 }
 
 // Document 01, Step: 21, then 22 to 25 for the process found.
-pub fn attempt<'a>(
-    row: &'a [u32; WORDS],
+pub fn attempt(
+    row: &[u32; WORDS],
     next: u32,
     live: u32,
-    serials: &'a mut [u32; 128],
-    templates: &'a mut [u32; 128],
-    labels: &'a mut [u32; 128],
-    tags: &'a mut [u32; 4096],
+    serials: &mut [u32; 128],
+    templates: &mut [u32; 128],
+    labels: &mut [u32; 128],
+    tags: &mut [u32; 4096],
     serial: u32,
     branch: u32,
 ) -> Result<Settled, Refusal>

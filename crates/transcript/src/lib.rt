@@ -49,11 +49,11 @@ pub fn print_run<W: Write, F: FnOnce(&[u32], &mut [u8]) -> Replayed>(
     print_replayed(out, replayed, &answers, script.fault)
 }
 
-pub fn print_replay<'a, W: Write>(
+pub fn print_replay<W: Write>(
     out: &mut W,
-    plan: &'a [u8],
-    policy: &'a [u8],
-    text: &'a [u8],
+    plan: &[u8],
+    policy: &[u8],
+    text: &[u8],
 ) -> io::Result<()> {
     print_run(out, text, |calls, answers| {
         replaying::replay(plan, policy, calls, answers)
