@@ -68,7 +68,8 @@ pub struct Run<'a> {
     pub next: u32,
 }
 
-// The next case of two texts and a list of calls, if one is left. The calls' length has six digits, the next serial eight.
+// The next case of two texts and a list of calls, if one is left. The calls' length has six digits, of which the first two are 0, the
+// next serial eight.
 pub fn read_run<'a>(
     file: &mut impl Read,
     plan: &'a mut [u8],
@@ -84,7 +85,7 @@ pub fn read_run<'a>(
     }
     let plan = read_text(file, plan, number(&header[0..4]))?;
     let policy = read_text(file, policy, number(&header[4..8]))?;
-    let calls = read_text(file, calls, number(&header[8..14]))?;
+    let calls = read_text(file, calls, number(&header[10..14]))?;
     let next = number(&header[14..22]);
     Ok(Some(Run {
         plan,

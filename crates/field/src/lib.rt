@@ -2,10 +2,10 @@
 // or why it is refused.
 #![tactic(auto)]
 
-ghost use Rattle.std.specs.Prelude.{◌≡◌, ◌≤◌, ◌^◌, length, ltb, unwrap_or};
+ghost use Rattle.std.specs.Prelude.{◌≡◌, ℕ, ◌≤◌, ◌^◌, length, ltb, unwrap_or};
 ghost use Rattle.lists.specs.Numbers.{all};
 ghost use Rattle.field.specs.Fields.{digit as digit_of, digits, decimal, number, mask as mask_of, name_byte, misplaced, declass as declass_of};
-ghost use Rattle.field.specs.Answers.{numbered, field_of, is_name};
+ghost use Rattle.field.specs.Answers.{numbered, field_of, ranged_of, is_name};
 
 use mask::Mask;
 use plan::Kind;
@@ -86,16 +86,23 @@ pub fn read_decimal(s: &[u8]) -> Result<u16, Refusal>
     Ok(value as u16)
 }
 
-// A number from low on and below the limit; out of range it is refused as told.
+// A number from low on and below the limit, and None out of range: with which number that is refused the caller says.
 #[tactic(auto, unfolding(crate::specs::Fields::number, crate::specs::Fields::and_then))]
-pub fn read_number(s: &[u8], refusal: Refusal, low: u8, limit: u8) -> Result<u8, Refusal>
-    ensures { field_of result ≡ number (numbered refusal) low limit s.now }
+pub fn read_in_range(s: &[u8], low: u8, limit: u8) -> Result<Option<u8>, Refusal>
+    ensures { (refusal : ℕ) → ranged_of refusal result ≡ number refusal low limit s.now }
 {
     let value = read_decimal(s)?;
     if value < u16::from(low) || u16::from(limit) <= value {
-        return Err(refusal);
+        return Ok(None);
     }
-    Ok(value as u8)
+    Ok(Some(value as u8))
+}
+
+// The same, refused as told out of range.
+pub fn read_number(s: &[u8], refusal: Refusal, low: u8, limit: u8) -> Result<u8, Refusal>
+    ensures { field_of result ≡ number (numbered refusal) low limit s.now }
+{
+    read_in_range(s, low, limit)?.ok_or(refusal)
 }
 
 // Whether each item of a mask is below the limit.

@@ -7,7 +7,7 @@ use mathlib.Core.Logic.{⊎_elim}
 use native.Mathlib.Nat.{pow-suc, mul_assoc, mul-mod_left, mul-div_cancel, zero-lt-suc, not-suc-le-zero, le_of_suc-le-suc, add-zero, add-suc, one-mul, mul-one, zero-mul, mod-eq_of_lt, lt_of_lt_of_le}
 use native.Mathlib.Omega.{arith}
 use lib.Bits.{bit_or}
-use lib.Pow.{pow-add, pow-lt, pow_mono, shl_lt}
+use lib.Pow.{pow-add, pow-lt, pow_mono, shl_lt, mod-mod-pow}
 use Rattle.lists.proofs.Tests.{lt_or_le, passes_fails}
 use Rattle.mask.specs.Mask.{has, plus}
 use Rattle.mask.specs.Sets.{plus_below, shifted}
@@ -81,9 +81,10 @@ module _ (k w m i : ℕ) (h : i < k) (l : k ≤ w) where
   unfolding plus
   one_fits f = rw (one_shifted w i (lt_of_lt_of_le h l)) (plus_lt k m i f h)
 
--- The code's way to move all of a mask of k digits, in twice as many as 64.
-pub all_shifted : (k n m : ℕ) → n < k → k ≤ 64 → m < 2 ^ k → m * 2 ^ n % 2 ^ 128 % (1 * 2 ^ k % 2 ^ 128) ≡ shifted n m % 2 ^ k
+-- The code's way to move all of a mask of k digits, in twice as many as 64, and to cut it twice.
+pub all_shifted : (k n m : ℕ) → n < k → k ≤ 64 → m < 2 ^ k → m * 2 ^ n % 2 ^ 128 % 2 ^ 64 % 2 ^ k ≡ shifted n m % 2 ^ k
 unfolding shifted
 all_shifted k n m h l f =
-    ap (λ (x : ℕ). m * 2 ^ n % 2 ^ 128 % x) (one_shifted 128 k (omega arith))
-    ∙ ap (λ (x : ℕ). x % 2 ^ k) (shifted_fits k 128 n m f (omega arith))
+    let e : 64 - k + k ≡ 64 = omega arith in
+    ap (λ (x : ℕ). x % 2 ^ 64 % 2 ^ k) (shifted_fits k 128 n m f (omega arith))
+    ∙ sym (ap (λ (w : ℕ). m * 2 ^ n % 2 ^ w % 2 ^ k) e) ∙ mod-mod-pow (m * 2 ^ n) (64 - k) k

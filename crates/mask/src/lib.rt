@@ -20,9 +20,9 @@ pub trait Mask: Copy {
         ensures value { result ≡ bits self }
         ensures fits { result < 2 ^ WIDTH };
 
+    // The items below the width.
     fn narrow(wide: u64) -> Self
-        requires { wide < 2 ^ WIDTH }
-        ensures { bits result ≡ wide };
+        ensures { bits result ≡ wide % 2 ^ WIDTH };
 
     ghost narrow_enough: { WIDTH ≤ 64 };
 
@@ -55,7 +55,7 @@ pub trait Mask: Copy {
             return Self::narrow(0);
         }
         let higher = (self.widen() as u128) << n;
-        Self::narrow((higher % (1 << Self::WIDTH)) as u64)
+        Self::narrow((higher % (1 << 64)) as u64)
     }
 }
 
@@ -73,7 +73,7 @@ impl Mask for u32 {
     }
 
     fn narrow(wide: u64) -> u32 {
-        wide as u32
+        (wide % (1 << 32)) as u32
     }
 }
 

@@ -1,6 +1,6 @@
 // How reading goes from line to line.
 
-ghost use Rattle.std.specs.Prelude.{◌≡◌, ◌+◌, IfSome};
+ghost use Rattle.std.specs.Prelude.{◌≡◌, ◌+◌, IfSome, IfErr};
 ghost use Rattle.std.specs.Fn.{FnOnceReturnsAt};
 ghost use Rattle.field.specs.Answers.{numbered};
 ghost use Rattle.text.specs.Reading.{closed};
@@ -57,14 +57,15 @@ impl<'a> Lines<'a> {
         Some((&text[key.len()..end], next))
     }
 
-    // One line: its key, and its field as it is read; or why the line is refused.
+    // One line: its key, and its field as it is read; or why the line is refused, and reading stays where it is.
     pub fn field<T, F: FnOnce(&'a [u8]) -> Result<T, Refusal>>(
         &mut self,
         key: &[u8],
         read: F,
     ) -> Result<T, Refused>
         requires { F.IsAlwaysCallable read }
-        ensures { Answered (FnOnceReturnsAt F.FnOnce read) (opened key.now (standing self.old)) (standing self.new) result }
+        ensures answer { Answered (FnOnceReturnsAt F.FnOnce read) (opened key.now (standing self.old)) (standing self.new) result }
+        ensures stays { IfErr result (λ _. self.new ≡ self.old) }
     {
         let line = self.line;
         let Some((field, next)) = self.open(key) else {
