@@ -1,4 +1,4 @@
--- The turns of the loop that moves numbers down: `shifted`.
+-- Numbers moved down by the library's copy: `shifted`.
 use Prim.Native.Nat.{ℕ, ◌+◌, ◌-◌, ◌≤◌, ◌<◌, min}
 use mathlib.Core.Path.{◌≡◌, sym, ap, ◌∙◌}
 use mathlib.Core.Bool.{and-false}

@@ -1,4 +1,4 @@
--- What the loops that copy and move blocks of words leave at each place.
+-- What copying and moving blocks of words leaves at each place.
 -- Not to be believed: nothing is stated of an operation by these alone.
 use Rattle.std.specs.Prelude.{ℕ, ◌+◌, ◌&&◌, cond, List, get_or, ltb, leb}
 use Rattle.ranges.specs.Ranges.{holds}

@@ -5,7 +5,8 @@ ghost use Rattle.std.specs.Prelude.{◌≡◌, ℕ, ◌≤◌, ◌+◌, ◌-◌,
 ghost use Rattle.lists.specs.Writes.{written};
 ghost use Rattle.blocks.specs.Blocks.{copied, shifted};
 
-// Copies n words from a place in one list to a place in another; nothing where either range passes an end.
+// Copies n words from a place in one list to a place in another; nothing where either range passes an end. Document 02, U12, asks
+// for it.
 pub fn copy_words(words: &[u32], from: usize, into: &mut [u32], at: usize, n: usize)
     ensures { (j : ℕ) → get_or into.new j 0 ≡ written into.old at (copied words.now from into.old at n) (λ i. get_or words.now (from + i) 0) j }
 {

@@ -1,4 +1,4 @@
-// What the programs share: a file read into a buffer, and lines of a key and a value.
+// What the programs share: a file read into a buffer, two of them lent to a closure, a line of a key and a value, words in base 16.
 #![tactic(auto)]
 
 ghost use Rattle.std.specs.Prelude.{◌≡◌, ◌<◌, ◌≤◌, [], ◌∷◌, ◌++◌, length, take, IfOk, OnOk};

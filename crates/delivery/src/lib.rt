@@ -1,4 +1,5 @@
 // Document 01, Send, on a lent row and lent arrays, below refusal 20.
+// The lent arrays are parameters of their own: crate population says why.
 #![tactic(auto)]
 
 ghost use Rattle.std.specs.Prelude.{◌≡◌, not, ◌&&◌, ◌||◌, List, ℕ, eqb};

@@ -1,5 +1,6 @@
 // A call on the plan's row and on lent arrays: refusal 20 is tested here, once for every call; what comes after it is done by
 // the crates below.
+// The lent arrays are parameters of their own: crate population says why.
 #![tactic(auto)]
 
 ghost use Rattle.std.specs.Prelude.{◌≡◌, get_or};

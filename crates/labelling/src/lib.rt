@@ -1,4 +1,5 @@
 // Document 01, Raise and lower, on a lent row and lent arrays, below refusal 20. They are one move; only the labels change.
+// The lent arrays are parameters of their own: crate population says why.
 #![tactic(auto)]
 
 ghost use Rattle.std.specs.Prelude.{◌≡◌, List, ℕ, ◌<◌, ◌≤◌, ◌^◌};

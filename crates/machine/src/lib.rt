@@ -5,7 +5,8 @@ use plan::Plan;
 use rules::Verdict;
 
 // The plan, the next serial and the live processes at the first `live` places; the places past them carry no meaning.
-// Tag i of the process at place p stands at p * M + i, M being the plan's number of identifiers.
+// Tag i of the process at place p stands at p * M + i, M being the plan's number of identifiers. The arrays and their count stand
+// apart, as the C interface lends them.
 #[derive(Clone, Copy)]
 pub struct State {
     pub plan: Plan,
@@ -17,7 +18,8 @@ pub struct State {
     pub tags: [u32; 4096],
 }
 
-// Done: a step, a raise or a lower that was accepted. Held means lost.
+// Done: a step, a raise or a lower that was accepted. Held means lost. A refusal is document 01's number here, of which the believed
+// definitions speak; in the code it is a `population::Refusal`.
 #[derive(Clone, Copy)]
 pub enum Answer {
     Done,

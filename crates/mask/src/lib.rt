@@ -47,7 +47,7 @@ pub trait Mask: Copy {
         Self::narrow(self.widen() | 1 << i)
     }
 
-    // The items, each n higher; those that come to stand past the width are lost.
+    // The items, each n higher; those that come to stand past the width are lost. Document 02, U10, asks for it.
     final fn shift(self, n: u32) -> Self
         ensures { bits result ≡ shifted n (bits self) % 2 ^ WIDTH }
     {
@@ -102,7 +102,7 @@ pub fn difference(a: u32, b: u32) -> u32
     a - (a & b)
 }
 
-// The lowest item of m, and 32 where m has none.
+// The lowest item of m, and 32 where m has none: the machine's own count, which a least of two takes as it is.
 pub fn lowest_item(m: u32) -> u32
     ensures { result ≡ lowest 32 (λ i. has i m) }
 {

@@ -1,5 +1,6 @@
 // Calls on the memory that a program in another language lends: a plan's row, whatever it means, and a box's place and
 // arrays.
+// The lent arrays are parameters of their own: crate population says why.
 #![tactic(auto)]
 
 ghost use Rattle.machine.specs.State.{call_of};
@@ -9,7 +10,7 @@ ghost use Rattle.memory.specs.Memory.{held, Answers, Runs};
 use dispatch::Call;
 use planrow::WORDS;
 
-// One call on a plan's row and the lent state.
+// One call on a plan's row and the lent state. The call is three numbers, as a program in another language gives it.
 pub fn call(
     row: &[u32; WORDS],
     place: &mut [u32; 2],

@@ -1,5 +1,6 @@
 // The operations by value: each takes any state at all and hands back the machine's answer and the machine's state, the very
-// state that it got unless it is done. See docs/ARCHITECTURE.md on why no state goes further down by value.
+// state that it got unless it is done. See docs/ARCHITECTURE.md on why no state goes further down by value. Four operations and not one,
+// as document 01 names them.
 #![tactic(auto)]
 
 ghost use Rattle.std.specs.Prelude.{◌≡◌};
@@ -31,17 +32,17 @@ fn call(state: State, call: Call) -> Answered
         call,
     );
     let after = State {
-        plan: plan,
+        plan,
         next: r.next,
         live: r.live,
-        serials: serials,
-        templates: templates,
-        labels: labels,
-        tags: tags,
+        serials,
+        templates,
+        labels,
+        tags,
     };
     let answer = r.answer;
     Answered {
-        answer: answer,
+        answer,
         state: after,
     }
 }

@@ -28,7 +28,8 @@ pub struct Template {
     pub risk: bool,
 }
 
-// Document 01's N, M and templates; the places at N and past it are blank in every plan that was read.
+// Document 01's N, M and templates; the places at N and past it are blank in every plan that was read. A row and its count: no
+// memory is asked for at run time.
 #[derive(Clone, Copy)]
 pub struct Plan {
     pub count: usize,
@@ -74,7 +75,7 @@ pub fn capped(count: usize, limit: u8) -> u8
     count.min(limit as usize) as u8
 }
 
-// What stands at a place that no line of a text filled.
+// What stands at a place that no line of a text filled. Not derived, so that it is the definition itself.
 impl Default for Template {
     ghost is_default = { λ t. t ≡ blank };
 

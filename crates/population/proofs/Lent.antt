@@ -1,5 +1,5 @@
 -- The calls on lent arrays, up to where each call's own refusals begin: 20, and where a serial is found or is not.
--- As the code meets it: g is the answer of `is_well_formed`, k that of `place_of`.
+-- As the code meets it: g is the answer of `is_well_formed`, k the place that `find` answers.
 use Prim.Native.Nat.{ℕ, ◌≤◌, ◌<◌}
 use mathlib.Core.Path.{◌≡◌, refl, sym, ap, ◌∙◌, subst}
 use mathlib.Core.Bool.{Bool, true, false, not}

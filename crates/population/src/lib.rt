@@ -92,8 +92,8 @@ pub fn settle(answer: Answer, next: u32, live: u32) -> Settled
 }
 
 // The processes' part of refusal 20, of parts of any length: N templates, M identifiers.
-// Here and in the crates above next, live and the four arrays are parameters of their own: the C interface lends them apart, and
-// a struct of the arrays would owe in each contract that its fields still hold the same references.
+// Here and in the crates above the four arrays are parameters of their own: the C interface lends them apart, copied they are 18 KB
+// a call, and a struct of four `&mut` would owe in each contract that its fields still hold the same references.
 pub fn are_fitting(
     count: u32,
     m: u32,

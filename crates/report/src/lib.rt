@@ -13,7 +13,8 @@ use rules::{Breach, Fault, Text, Verdict};
 // Room for the bytes of any verdict: the longest has 60.
 pub const ROOM: usize = 64;
 
-// Copies bytes into the list from a place on and answers the place after them.
+// Copies bytes into the list from a place on and answers the place after them. The place is handed on: a struct of it and the buffer
+// would owe in each clause that it still holds the same buffer.
 fn append(out: &mut [u8], at: usize, bytes: &[u8]) -> usize
     requires { at + length bytes.now ≤ length out.old }
     ensures { Appends out.old at bytes.now out.new result }

@@ -8,7 +8,8 @@ ghost use Rattle.route.specs.Lent.{laid};
 
 use mask::Mask;
 
-// A plan laid out: the successors of each template, the masks of what each creates, and the forks.
+// A plan laid out: the successors of each template, the masks of what each creates, and the forks. Rows of their own, since a
+// search reads the successors alone.
 #[derive(Clone, Copy)]
 pub struct Layout {
     pub first: [u8; 64],

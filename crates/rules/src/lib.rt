@@ -1,4 +1,4 @@
-// The judge's answers: their types, the first of two that is not accepted, and which rules are those of an edge.
+// The judge's answers: their types, a verdict of what a check of rules answers, and which rules are those of an edge.
 #![tactic(auto)]
 
 ghost use Rattle.std.specs.Prelude.{◌≡◌};
@@ -12,7 +12,7 @@ pub enum Text {
     Policy,
 }
 
-// A text that was not read: document 01's text, number and line.
+// A text that was not read: document 01's text, number and line, a number as it is printed and exported.
 #[derive(Clone, Copy, PartialEq, Eq)]
 pub struct Fault {
     pub text: Text,
@@ -20,7 +20,7 @@ pub struct Fault {
     pub line: u32,
 }
 
-// The first broken rule, with document 01's first, second and identifier.
+// The first broken rule, with document 01's first, second and identifier: its own numbers, 255 too, as they are printed and exported.
 #[derive(Clone, Copy, PartialEq, Eq)]
 pub struct Breach {
     pub rule: u8,

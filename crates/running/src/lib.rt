@@ -1,4 +1,5 @@
 // A list of calls, three words each, on a lent row and lent arrays.
+// The lent arrays are parameters of their own: crate population says why.
 #![tactic(auto)]
 
 ghost use Rattle.std.specs.Prelude.{◌≡◌, ◌≤◌, ◌*◌, ◌/◌, min};

@@ -4,7 +4,7 @@
 ghost use Rattle.std.specs.Prelude.{◌≡◌, ◌-◌, min, length, take, drop};
 ghost use Rattle.scan.specs.Bytes.{before, starts_with, same, further};
 
-// How many bytes of s stand before the first b; all of them where there is none.
+// How many bytes of s stand before the first b; all of them where there is none, which the definition counts too.
 pub fn find(s: &[u8], b: u8) -> usize
     ensures { result ≡ before b s.now }
 {

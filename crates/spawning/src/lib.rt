@@ -1,5 +1,6 @@
 // The arrays when a process goes and its children come: the places above it move down, its children come after all others.
 // What is public takes any numbers; what the arrays then mean is said where there is room.
+// The lent arrays are parameters of their own: crate population says why.
 #![tactic(auto)]
 
 ghost use Rattle.std.specs.Prelude.{◌≡◌, ◌<◌, ◌≤◌};

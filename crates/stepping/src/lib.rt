@@ -1,4 +1,5 @@
 // Document 01, Step, on a lent row and lent arrays, below refusal 20: the process is found, and refused or moved on.
+// The lent arrays are parameters of their own: crate population says why.
 #![tactic(auto)]
 
 ghost use Rattle.std.specs.Prelude.{◌<◌, ◌≤◌};

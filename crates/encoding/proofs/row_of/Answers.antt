@@ -1,4 +1,4 @@
--- The words of the first i templates stand there (Writing); how many are left falls.
+-- The words of the first i templates stand there (Writing).
 use Rattle.plan.specs.Plan.{at}
 use Rattle.encoding.proofs.Writing.{writing_none, writing_room, writing_more, writing_all}
 use Rattle.encoding.proofs.row_of.Goals as goal

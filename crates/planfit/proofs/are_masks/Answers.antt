@@ -1,4 +1,4 @@
--- The loop has joined the masks below word k; how many are left falls.
+-- The loop has joined the masks below word k.
 use native.Mathlib.Omega.{arith}
 use Rattle.planfit.proofs.Fitting.{joined_none, joined_more, joined_all}
 use Rattle.planfit.proofs.are_masks.Goals as goal

@@ -1,4 +1,4 @@
--- The counts; then the loop has gathered the test of the first i templates, and how many are left falls.
+-- The counts; then the loop has gathered the test of the first i templates.
 use native.Mathlib.Omega.{arith}
 use borrow.Author.Rules.{rules}
 use Rattle.lists.proofs.Every.{every_start, every_told}
