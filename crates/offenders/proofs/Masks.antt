@@ -5,6 +5,8 @@ use mathlib.Core.Logic.{⊎_elim}
 use mathlib.Core.Bool.{Bool, true, false, not, cond, ◌&&◌, ◌||◌}
 use native.Mathlib.Omega.{arith}
 use lib.Dec.{ltb}
+use mir.Syntax.{w8}
+use mir.Val.{Fits}
 use Rattle.std.specs.Prelude.{Option, Some, None}
 use lib.Bits.{bit_and, bit_or}
 use borrow.Author.Tests.{ltb-true, lt-ltb, le-ltb, ltb-false}
@@ -73,6 +75,10 @@ module _ (limit : ℕ) (test : ℕ → Bool) (o : Option ℕ) (e : o ≡ lowest_
 
   pub none_lowest : o ≡ None → limit ≤ lowest limit test
   none_lowest h = ltb-false (lowest limit test) limit (none_is (ltb (lowest limit test) limit) (lowest limit test) (sym e ∙ h))
+
+-- Found, it is a byte.
+pub item_room : (limit i : ℕ) → (i < limit → i < 32) → i < limit → Fits w8 i
+item_room limit i low h = let l = low h in omega arith
 
 -- The lowest item of the mask of a test is the lowest that passes.
 pub lowest_marked : (limit m : ℕ) (test : ℕ → Bool) → Marks m test → lowest limit (λ i. has i m) ≡ lowest limit test

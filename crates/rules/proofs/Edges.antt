@@ -3,7 +3,7 @@
 use Prim.Native.Nat.{ℕ, ◌<◌}
 use mathlib.Core.Path.{◌≡◌, refl, sym, ap, ◌∙◌}
 use mathlib.Core.List.{List, [], ◌∷◌, map}
-use mathlib.Core.Bool.{Bool, false, cond}
+use mathlib.Core.Bool.{Bool, true, false, not, cond, ◌&&◌, ◌||◌}
 use lib.Dec.{ltb}
 use borrow.Author.Tests.{ltb-true, lt-ltb}
 use Rattle.lists.specs.Numbers.{any, lowest}
@@ -15,6 +15,17 @@ use Rattle.rules.specs.Rules.{Kept, Each, RowHolds, EdgeRules}
 use Rattle.rules.specs.Judge.{Breach, Verdict, Accepted, Broken, first_in, lowest_offender, EdgeRule, edge_rules, step_rules, check_edge, check_edges}
 use Rattle.rules.specs.Broken.{breach, Lowest, EdgeBroken, EarlierEdges}
 use Rattle.rules.proofs.Walk.{Decided, test_accepted, test_broken, test_decided, below_each, below_all, below_stop, below_decided, below_broken, each_map, each_among, among_each, in_broken, in_each, in_all, in_stop, in_decided}
+
+-- ---- the rows' numbers
+
+-- One of five, as is_edge_rule asks the rows.
+pub some-row : (a b c d e : Bool) → ((((a || b) || c) || d) || e) ≡ not (not a && (not b && (not c && (not d && (not e && true)))))
+some-row true b c d e = refl
+some-row false true c d e = refl
+some-row false false true d e = refl
+some-row false false false true e = refl
+some-row false false false false true = refl
+some-row false false false false false = refl
 
 -- ---- the lowest offender
 
