@@ -31,10 +31,19 @@ pub fn read_line(s: &[u8]) -> Option<Call> {
     let x = read_number(first)?;
     let y = read_number(second)?;
     match word {
-        b"step" => Some(Call::Step { serial: x, branch: y }),
+        b"step" => Some(Call::Step {
+            serial: x,
+            branch: y,
+        }),
         b"send" => Some(Call::Send { from: x, to: y }),
-        b"raise" => Some(Call::Raise { serial: x, identifier: y }),
-        b"lower" => Some(Call::Lower { serial: x, identifier: y }),
+        b"raise" => Some(Call::Raise {
+            serial: x,
+            identifier: y,
+        }),
+        b"lower" => Some(Call::Lower {
+            serial: x,
+            identifier: y,
+        }),
         _ => None,
     }
 }

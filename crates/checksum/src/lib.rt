@@ -49,9 +49,7 @@ fn mix_assertion(sum: u64, a: Assertion) -> u64 {
 }
 
 pub fn mix_plan(sum: u64, plan: Plan) -> u64 {
-    (0..64u8).fold(sum, |total, i| {
-        mix_template(total, plan.template(i))
-    })
+    (0..64u8).fold(sum, |total, i| { mix_template(total, plan.template(i)) })
 }
 
 pub fn mix_policy(sum: u64, policy: Policy) -> u64 {

@@ -61,12 +61,7 @@ pub struct Replayed {
 }
 
 // Both texts judged, the box started, and the calls run through it, the answers written to the row.
-pub fn replay(
-    plan: &[u8],
-    policy: &[u8],
-    calls: &[u32],
-    answers: &mut [u8],
-) -> Replayed
+pub fn replay(plan: &[u8], policy: &[u8], calls: &[u32], answers: &mut [u8]) -> Replayed
     ensures { Replays plan.now policy.now calls.now answers.old result.verdict result.count result.state answers.new }
 {
     let started = starting::start(plan, policy);
