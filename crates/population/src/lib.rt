@@ -69,14 +69,6 @@ pub struct Child {
     pub template: Template,
 }
 
-// The children of a step: the first `count` of two, the first with the lower serial.
-#[derive(Clone, Copy)]
-pub struct Children {
-    pub count: u8,
-    pub first: Child,
-    pub second: Child,
-}
-
 // What a call leaves beside the arrays.
 #[derive(Clone, Copy)]
 pub struct Settled {

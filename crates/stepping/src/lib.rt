@@ -12,7 +12,7 @@ ghost use Rattle.stepping.specs.Stepping.{SteppedAt};
 
 use machine::Answer;
 use planrow::WORDS;
-use population::{Child, Children, Refusal, Settled};
+use population::{Child, Refusal, Settled};
 
 // The step of the process at place k. A row of more than 32 identifiers means a bad state, whose tags have no places.
 fn step_at(
@@ -38,25 +38,16 @@ fn step_at(
     }
     let t = planrow::template_at(row, templates[k]);
     let heirs = admission::children_of(t.form, branch);
-    let y = heirs.first as u32;
-    let z = heirs.second as u32;
-    let children = Children {
-        count: heirs.count,
-        first: Child {
-            number: y,
-            template: planrow::template_at(row, y),
-        },
-        second: Child {
-            number: z,
-            template: planrow::template_at(row, z),
-        },
-    };
+    let children = heirs.map(|y| Child {
+        number: y as u32,
+        template: planrow::template_at(row, y as u32),
+    });
     admission::admit(m, next, live, labels[k], t, branch, children)?;
     let last = live - 1;
     spawning::advance(
         m, next, k as u32, last, children, serials, templates, labels, tags,
     );
-    let born = heirs.count as u32;
+    let born = children.count();
     Ok(population::settle(Answer::Done, next + born, last + born))
 }
 
