@@ -4,8 +4,6 @@ use mathlib.Core.Path.{◌≡◌, sym, ap, ◌∙◌}
 use mathlib.Core.Bool.{Bool, false, true, not, ◌&&◌}
 use mathlib.Core.Logic.{⊎_elim}
 use native.Mathlib.Omega.{arith}
-use mir.Val.{Fits}
-use mir.Syntax.{w32}
 use lib.{Dec.{leb, eqb}, ListN.{length}}
 use borrow.Author.Tests.{leb-true, eq-eqb, not-false}
 use Rattle.lists.proofs.Tests.{lt_or_le}
@@ -47,10 +45,3 @@ module _ (M next live label : ℕ) (X : Template) (branch : ℕ) (children : UpT
       spare r f =
           let w : leb (live + 1) 128 ≡ true = not-false (leb (live + 1) 128) (ap (λ (b : Bool). b && not (leb (live + 1) 128)) (sym (eq-eqb count 2 r)) ∙ f) in
           let v = leb-true (live + 1) 128 w in omega arith
-
-  -- What the step leaves beside the arrays fits.
-  pub next_fits : Fits w32 (next + count)
-  next_fits = let l = room_left.serials in omega arith
-
-  pub live_fits : Fits w32 (live - 1 + count)
-  live_fits = let l = room_left.places in omega arith

@@ -7,8 +7,6 @@ use mathlib.Core.Option.{some}
 use native.Mathlib.Numerals.{add-one}
 use Rattle.std.proofs.lemmas.List.{length-map}
 use native.Mathlib.Omega.{arith}
-use mir.Val.{Fits}
-use mir.Syntax.{w32}
 use lib.Dec.{eqb, leb, ltb}
 use lib.ListN.{length, get_or}
 use Rattle.lists.specs.Numbers.{all, lowest, tabulate}
@@ -178,9 +176,3 @@ module _ (row : List ℕ) (next live : ℕ) (xs ts ls gs : List ℕ) (serial bra
     same = w.same;
     others = Prim.tt;
   }
-
-pub some_live : (k live : ℕ) → k < live → 1 ≤ live
-some_live k live h = omega arith
-
-pub place_word : (k live : ℕ) → k < live → live ≤ 128 → Fits w32 k
-place_word k live h l = omega arith
