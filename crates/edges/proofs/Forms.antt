@@ -1,13 +1,12 @@
--- The edges from one template by its form; and the loop over the templates.
+-- The edges from one template to its successors; and the loop over the templates.
 use Prim.Native.Nat.{ℕ, ◌+◌, min, ◌≤◌, ◌<◌}
 use mathlib.Core.Path.{◌≡◌, sym, ap, subst, ◌∙◌}
 use mathlib.Core.Logic.{◌⊎◌, inl, inr}
+use mathlib.Core.List.{[], ◌∷◌}
 use native.Mathlib.Omega.{arith}
 use lib.ListN.{length, get_or}
 use Rattle.std.specs.Prelude.{Result, Ok, Err, IsErrAnd}
 use Rattle.lists.proofs.Tests.{lt_or_le}
-use Rattle.plan.specs.declared.Form.{Form}
-use Rattle.plan.specs.declared.Form.TheVariants.{End, Go, Either, Both}
 use Rattle.plan.specs.declared.Plan.{Plan}
 use Rattle.plan.specs.declared.Template.{Template}
 use Rattle.plan.specs.Plan.{blank, at, successors}
@@ -19,29 +18,21 @@ use Rattle.rules.specs.Judge.{or_else, first_below, first_in, check_edge, check_
 use Rattle.rules.specs.Broken.{answered}
 use Rattle.rules.proofs.Walk.{or_last, or_stops, or_goes, below_none, below_more, below_breaks, below_past}
 
--- None, one or two: the first's answer is r, the second's s.
-module _ (f : ℕ → Verdict) (form : Form) where
-  pub of_none : form ≡ End → Accepted ≡ first_in (successors form) f
-  unfolding successors first_in
-  of_none h = sym (ap (λ (k : Form). first_in (successors k) f) h)
+-- Of one, and of two: the first's answer is r, that of both s.
+module _ (f : ℕ → Verdict) (Y : ℕ) (r : Result (Unit {0}) Breach) (e : answered r ≡ f Y) where
+  pub of_one : answered r ≡ first_in (Y ∷ []) f
+  unfolding first_in
+  of_one = e ∙ sym (or_last (f Y))
 
-  pub of_one : (Y : ℕ) → form ≡ Go Y → (r : Result (Unit {0}) Breach) → answered r ≡ f Y → answered r ≡ first_in (successors form) f
-  unfolding successors first_in
-  of_one Y h r e = e ∙ sym (or_last (f Y)) ∙ sym (ap (λ (k : Form). first_in (successors k) f) h)
+  module _ (Z : ℕ) where
+    two : or_else (f Y) (f Z) ≡ first_in (Y ∷ Z ∷ []) f
+    unfolding first_in
+    two = ap (or_else (f Y)) (sym (or_last (f Z)))
 
-  module _ (Y Z : ℕ) (h : (form ≡ Either Y Z) ⊎ (form ≡ Both Y Z)) (r : Result (Unit {0}) Breach) (e : answered r ≡ f Y) where
-    two : or_else (f Y) (f Z) ≡ first_in (successors form) f
-    unfolding successors first_in
-    two = ap (or_else (f Y)) (sym (or_last (f Z))) ∙ by_form h
-      where
-        by_form : (form ≡ Either Y Z) ⊎ (form ≡ Both Y Z) → or_else (f Y) (or_else (f Z) Accepted) ≡ first_in (successors form) f
-        by_form (inl q) = sym (ap (λ (k : Form). first_in (successors k) f) q)
-        by_form (inr q) = sym (ap (λ (k : Form). first_in (successors k) f) q)
-
-    pub of_first : (d : Breach) → r ≡ Err d → (s : Result (Unit {0}) Breach) → IsErrAnd s (λ e. e ≡ d) → answered s ≡ first_in (successors form) f
+    pub of_first : (d : Breach) → r ≡ Err d → (s : Result (Unit {0}) Breach) → IsErrAnd s (λ e. e ≡ d) → answered s ≡ first_in (Y ∷ Z ∷ []) f
     of_first d q s k = or_stops r (f Y) (f Z) d e q s k ∙ two
 
-    pub of_second : (u : Unit {0}) → r ≡ Ok u → (s : Result (Unit {0}) Breach) → answered s ≡ f Z → answered s ≡ first_in (successors form) f
+    pub of_second : (u : Unit {0}) → r ≡ Ok u → (s : Result (Unit {0}) Breach) → answered s ≡ f Z → answered s ≡ first_in (Y ∷ Z ∷ []) f
     of_second u q s k = k ∙ or_goes r (f Y) (f Z) u e q ∙ two
 
 -- ---- all templates

@@ -8,7 +8,7 @@ ghost use Rattle.plan.specs.Plan.{successors};
 ghost use Rattle.rules.specs.Judge.{first_in, lowest_offender, check_edge, check_edges};
 ghost use Rattle.rules.specs.Broken.{answered};
 
-use plan::{Form, Plan};
+use plan::{Form, Plan, UpToTwo};
 use rules::Breach;
 
 // A rule, broken at the lowest item of m below the limit, where there is one.
@@ -44,10 +44,10 @@ fn check_edge(plan: &Plan, x: u8, y: u8) -> Result<(), Breach>
 fn check_edges_from(plan: &Plan, x: u8, form: Form) -> Result<(), Breach>
     ensures { answered result ≡ first_in (successors form) (check_edge plan.now x) }
 {
-    match form {
-        Form::End => Ok(()),
-        Form::Go(y) => check_edge(plan, x, y),
-        Form::Either(y, z) | Form::Both(y, z) => {
+    match form.successors() {
+        UpToTwo::None => Ok(()),
+        UpToTwo::One(y) => check_edge(plan, x, y),
+        UpToTwo::Two(y, z) => {
             check_edge(plan, x, y)?;
             check_edge(plan, x, z)
         }

@@ -44,7 +44,7 @@ padded_any test stops (Either Y Z) = refl
 padded_any test stops (Both Y Z) = refl
 
 padded_fork : (form : Form) (r : Bool) (test : ℕ → ℕ → Bool) → both (r && is_fork form) (test (first_of form) (second_of form)) ≡ both r (on_branches form test)
-unfolding both
+unfolding both successors
 padded_fork End true test = refl
 padded_fork End false test = refl
 padded_fork (Go Y) true test = refl

@@ -8,21 +8,15 @@ use Rattle.mask.specs.Mask.{has}
 use Rattle.plan.specs.declared.Form.{Form}
 use Rattle.plan.specs.declared.Form.TheVariants.{End, Go, Either, Both}
 use Rattle.plan.specs.declared.Plan.{Plan}
-use Rattle.plan.specs.Plan.{at}
+use Rattle.plan.specs.Plan.{at, successors}
 use Rattle.route.specs.declared.Layout.{Layout}
 use Rattle.route.specs.Search.{in_mask, collect, reach}
 
 abbrev pub first_of : Form → ℕ
-first_of End = 64
-first_of (Go Y) = Y
-first_of (Either Y Z) = Y
-first_of (Both Y Z) = Y
+first_of form = get_or (successors form) 0 64
 
 abbrev pub second_of : Form → ℕ
-second_of End = 64
-second_of (Go Y) = 64
-second_of (Either Y Z) = Z
-second_of (Both Y Z) = Z
+second_of form = get_or (successors form) 1 64
 
 abbrev pub is_fork : Form → Bool
 is_fork End = false

@@ -6,7 +6,7 @@ ghost use Rattle.route.specs.Search.{collect};
 ghost use Rattle.layout.specs.Layout.{first_of, second_of, is_fork, made_by, all_forks, layout_of};
 
 use mask::Mask;
-use plan::{Form, Plan};
+use plan::{Form, Plan, UpToTwo};
 use route::Layout;
 
 // A successor that a template lacks: no place of a plan, so no search enters it. Not an Option: a search asks of each
@@ -14,13 +14,14 @@ use route::Layout;
 const NOWHERE: u8 = 64;
 
 // The first successor and the second one.
+#[tactic(auto, unfolding(plan::specs::Plan::successors))]
 fn successors(form: Form) -> (u8, u8)
     ensures { result ≡ (first_of form, second_of form) }
 {
-    match form {
-        Form::End => (NOWHERE, NOWHERE),
-        Form::Go(y) => (y, NOWHERE),
-        Form::Either(y, z) | Form::Both(y, z) => (y, z),
+    match form.successors() {
+        UpToTwo::None => (NOWHERE, NOWHERE),
+        UpToTwo::One(y) => (y, NOWHERE),
+        UpToTwo::Two(y, z) => (y, z),
     }
 }
 
