@@ -2,7 +2,7 @@
 use Prim.Native.Nat.{ℕ, zero, suc, ◌+◌, ◌^◌, min, ◌≤◌, ◌<◌}
 use mathlib.Core.Path.{◌≡◌, refl, sym, ap, ap₂, ◌∙◌}
 use mathlib.Core.Logic.{◌⊎◌, inl, inr, ⊎_elim}
-use mathlib.Core.Bool.{Bool, true, false, not, ◌&&◌, ◌||◌, and-true, and-false, and_assoc}
+use mathlib.Core.Bool.{Bool, true, false, not, ◌&&◌, ◌||◌, and-true, and_assoc}
 use mathlib.Core.List.{List, [], ◌∷◌}
 use native.Mathlib.Omega.{arith}
 use lib.ListN.{length, get_or, take}
@@ -198,24 +198,18 @@ masks_below m a b c d =
     D : Bool
     D = ltb d (2 ^ m)
 
--- The code tests each successor as a byte and as a successor at once.
-regrouped : (a b c d p q r : Bool) → (a && (b && p) && (c && q) && d && r) ≡ ((a && (b && (c && d))) && ((p && q) && r))
-regrouped false b c d p q r = refl
-regrouped true false c d p q r = refl
-regrouped true true false d false q r = refl
-regrouped true true false d true q r = refl
-regrouped true true true false p q r = ap (λ (t : Bool). t && r) (and-false (p && q))
-regrouped true true true true p q r = ap (λ (t : Bool). t && r) (and-true (p && q))
-
--- s, t and r are the answers of `successor_fits` and `is_mask`.
-pub template_gathered : (ws : List ℕ) (n m : ℕ) (s t r : Bool)
-    → s ≡ (leb (word ws 1) 255 && (ltb (word ws 0) 1 || ltb (word ws 1) n))
-    → t ≡ (leb (word ws 2) 255 && (ltb (word ws 0) 2 || ltb (word ws 2) n))
+-- t and r are the answers of `is_template` and `is_mask`.
+pub template_gathered : (ws : List ℕ) (n m : ℕ) (t r : Bool) → t ≡ is_template (word ws)
     → r ≡ ltb (bit_or (bit_or (bit_or (word ws 3) (word ws 4)) (word ws 5)) (word ws 6)) (2 ^ m)
-    → (leb (word ws 0) 3 && s && t && leb (word ws 7) 1 && r) ≡ (is_template (word ws) && template_fits n m (template_of (word ws)))
-unfolding is_template template_fits template_of masks
-template_gathered ws n m s t r es et er =
-    (λ i. leb (word ws 0) 3 && es i && et i && leb (word ws 7) 1 && er i)
-    ∙ regrouped (leb (word ws 0) 3) (leb (word ws 1) 255) (leb (word ws 2) 255) (leb (word ws 7) 1) _ _ _
-    ∙ ap₂ (λ (b c : Bool). is_template (word ws) && (b && c))
-    (successors-below (word ws 0) (word ws 1) (word ws 2) n) (masks_below m (word ws 3) (word ws 4) (word ws 5) (word ws 6))
+    → (t && (ltb (word ws 0) 1 || ltb (word ws 1) n) && (ltb (word ws 0) 2 || ltb (word ws 2) n) && r)
+    ≡ (is_template (word ws) && template_fits n m (template_of (word ws)))
+unfolding template_fits template_of masks
+template_gathered ws n m t r et er =
+    and_assoc (t && a) b r ∙ and_assoc t a (b && r) ∙ sym (ap (λ (c : Bool). t && c) (and_assoc a b r))
+    ∙ (λ i. et i && (successors-below (word ws 0) (word ws 1) (word ws 2) n i && (er ∙ masks_below m (word ws 3) (word ws 4) (word ws 5) (word ws 6)) i))
+  where
+    a : Bool
+    a = ltb (word ws 0) 1 || ltb (word ws 1) n
+
+    b : Bool
+    b = ltb (word ws 0) 2 || ltb (word ws 2) n

@@ -1,20 +1,13 @@
 // The plan's part of refusal 20, tested on the words of a row.
 #![tactic(auto)]
 
-ghost use Rattle.std.specs.Prelude.{◌≡◌, ◌&&◌, ◌||◌, ◌^◌, leb, ltb};
+ghost use Rattle.std.specs.Prelude.{◌≡◌, ◌&&◌, ◌^◌, ltb};
 ghost use Rattle.plan.specs.Plan.{template_fits};
 ghost use Rattle.machine.specs.Machine.{plan_fits};
 ghost use Rattle.planrow.specs.Row.{template_of, is_template};
 ghost use Rattle.planrow.specs.Lookup.{word, plan_for};
 
 use planrow::{WIDTH, WORDS};
-
-// Document 01, 20: "a plan's successor not below N"; the word of one that the form lacks need only be a byte.
-fn successor_fits(y: u32, lacking: bool, n: u32) -> bool
-    ensures { result ≡ (leb y 255 && (lacking || ltb y n)) }
-{
-    (y <= 255) & (lacking | (y < n))
-}
 
 // Whether a mask is one over m identifiers.
 #[tactic(auto, using(crate::proofs::Fitting::mask_fits))]
@@ -24,16 +17,16 @@ fn is_mask(mask: u32, m: u32) -> bool
     mask <= mask::full_mask(m)
 }
 
-// Whether a template's words stand for one that fits n templates and m identifiers. Joined, its masks are compared once.
+// Whether a template's words stand for one that fits n templates and m identifiers. A successor that the form lacks need only be
+// a byte. Joined, the masks are compared once.
 #[tactic(auto, using(crate::proofs::Fitting::template_gathered))]
 fn template_fits(words: &[u32; WIDTH], n: u32, m: u32) -> bool
     ensures { result ≡ (is_template (word words.now) && template_fits n m (template_of (word words.now))) }
 {
-    let [form, first, second, lab, pos, neg, creates, risk] = *words;
-    (form <= 3)
-        & successor_fits(first, form < 1, n)
-        & successor_fits(second, form < 2, n)
-        & (risk <= 1)
+    let [form, first, second, lab, pos, neg, creates, _] = *words;
+    planrow::is_template(words)
+        & ((form < 1) | (first < n))
+        & ((form < 2) | (second < n))
         & is_mask(lab | pos | neg | creates, m)
 }
 

@@ -76,7 +76,7 @@ pub fn templates(row: &[u32; WORDS]) -> &[[u32; WIDTH]]
 
 // Whether a template's words stand for one.
 #[tactic(auto, using(crate::proofs::Reading::tested))]
-fn is_template(words: &[u32; WIDTH]) -> bool
+pub fn is_template(words: &[u32; WIDTH]) -> bool
     ensures { result ≡ is_template (word words.now) }
 {
     let [form, first, second, .., risk] = *words;
