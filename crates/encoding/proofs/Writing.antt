@@ -1,32 +1,63 @@
 -- What the writer of a row meets: a template's words, and the row of a plan, template after template.
 use Prim.Native.Nat.{ℕ, zero, suc, ◌+◌, ◌-◌, ◌*◌, ◌/◌, min, ◌≤◌, ◌<◌}
-use mathlib.Core.Path.{◌≡◌, refl, sym, ap, ap₂, ◌∙◌}
+use mathlib.Core.Path.{◌≡◌, refl, sym, ap, ◌∙◌}
 use mathlib.Core.Bool.{Bool, true, false, cond}
 use mathlib.Core.Logic.{⊎_elim}
 use mathlib.Core.List.{List, [], ◌∷◌, ◌++◌}
 use native.Mathlib.Omega.{arith}
-use lib.ListN.{length, get_or, set, replicate, length-set, length-replicate}
+use borrow.Rule.Slice.PartMut.{put_mid}
+use lib.ListN.{length, get_or, take, drop, set, replicate, length-append, get_or-append, length-set, length-replicate}
 use lib.Seq.{get_or-set_other, ext_get_or}
+use Rattle.std.proofs.lemmas.List.{get_or_default, get_or-append_right, get_or-take, get_or-drop, length-take, length-take-le, length-drop}
 use mir.Val.{bool_byte}
 use Rattle.lists.proofs.Tests.{lt_or_le}
 use Rattle.lists.proofs.Length.{get_or-same}
-use Rattle.lists.specs.Writes.{written}
-use Rattle.lists.proofs.Written.{written_in, written_below, written_above}
 use Rattle.plan.specs.declared.{Template.{Template}, Plan.{Plan}}
-use Rattle.plan.specs.Plan.{at, masks}
-use Rattle.encoding.specs.declared.FormWords.{FormWords}
+use Rattle.plan.specs.Plan.{at, blank, masks}
 use Rattle.planrow.specs.Row.{header, width, words, begins, form_number, first_of, second_of, words_of, word_in, header_of, row_of_plan}
-use Rattle.planrow.proofs.Places.{word_here, word_past, length-row, row_front, row_behind}
+use Rattle.planrow.proofs.Places.{word_here, word_past, word_lacking, length-row, row_front, row_behind}
 
 -- Of a template the code has the form's three words and risk as a number.
-pub words_whole : (t : Template) (w : FormWords) → w.number ≡ form_number t.form → w.first ≡ first_of t.form → w.second ≡ second_of t.form
-    → (w.number ∷ w.first ∷ w.second ∷ t.lab ∷ t.pos ∷ t.neg ∷ t.creates ∷ bool_byte t.risk ∷ []) ≡ words_of t
+pub words_whole : (t : Template) (number first second : ℕ) → number ≡ form_number t.form → first ≡ first_of t.form → second ≡ second_of t.form
+    → (number ∷ first ∷ second ∷ t.lab ∷ t.pos ∷ t.neg ∷ t.creates ∷ bool_byte t.risk ∷ []) ≡ words_of t
 unfolding words_of masks
-words_whole t w a b c = λ i. a i ∷ b i ∷ c i ∷ (masks t ++ (risk t.risk i ∷ []))
+words_whole t number first second a b c = λ i. a i ∷ b i ∷ c i ∷ (masks t ++ (risk t.risk i ∷ []))
   where
     risk : (b : Bool) → bool_byte b ≡ cond b 1 0
     risk true = refl
     risk false = refl
+
+length-words : (t : Template) → length (words_of t) ≡ width
+unfolding words_of masks
+length-words t = refl
+
+-- Words stored over as many of a row from a place on.
+module _ (row ws : List ℕ) (k at : ℕ) (ek : k ≡ width) (long : length ws ≡ width) (there : at + width ≤ length row) where
+  front-length : length (take at row) ≡ at
+  front-length = length-take-le at row (omega arith)
+
+  abbrev after : List ℕ
+  after = drop k (drop at row)
+
+  stored-length : length (put_mid at k row ws) ≡ length row
+  stored-length =
+      length-append (take at row) (ws ++ after)
+      ∙ omega (arith, front-length, long, length-append ws after, length-drop k (drop at row), length-drop at row)
+
+  stored_below : (j : ℕ) → j < at → get_or (put_mid at k row ws) j 0 ≡ get_or row j 0
+  stored_below j h = get_or-append (take at row) (ws ++ after) 0 j (omega (arith, front-length)) ∙ get_or-take at row j 0 h
+
+  stored_in : (j : ℕ) → j < width → get_or (put_mid at k row ws) (at + j) 0 ≡ get_or ws j 0
+  stored_in j h =
+      get_or-append_right (take at row) (ws ++ after) at (at + j) 0 front-length (omega arith)
+      ∙ ap (λ (j : ℕ). get_or (ws ++ after) j 0) (omega arith) ∙ get_or-append ws after 0 j (omega (arith, long))
+
+  stored_above : (j : ℕ) → at + width ≤ j → get_or (put_mid at k row ws) j 0 ≡ get_or row j 0
+  stored_above j h =
+      get_or-append_right (take at row) (ws ++ after) at j 0 front-length (omega arith)
+      ∙ get_or-append_right ws after width (j - at) 0 long (omega arith)
+      ∙ get_or-drop k (drop at row) (j - at - width) 0 ∙ get_or-drop at row (k + (j - at - width)) 0
+      ∙ ap (λ (i : ℕ). get_or row i 0) (omega arith)
 
 -- After i of n templates: the header and their words stand there, and 0 past them.
 pub record Writing (plan : Plan) (n : ℕ) (row : List ℕ) (i : ℕ) : Type 0 where
@@ -64,44 +95,55 @@ module _ (plan : Plan) (n : ℕ) where
           ∙ get_or-same ℕ words (header + j) 0;
     }
 
-  pub writing_more : (row row' ws : List ℕ) (i : ℕ) (t : Template) → Writing plan n row i → i < n → t ≡ at plan i → ws ≡ words_of t
-      → length row' ≡ words → ((j : ℕ) → get_or row' j 0 ≡ written row (begins i) width (λ k. get_or ws k 0) j) → Writing plan n row' (i + 1)
-  writing_more row row' ws i t w h et ew l e = record {
+  -- The next of the first n templates is stored.
+  pub writing_more : (row ws : List ℕ) (k i : ℕ) (d : Template) → Writing plan n row i → i < length (take n plan.templates) → k ≡ width
+      → ws ≡ words_of (get_or (take n plan.templates) i d) → Writing plan n (put_mid (begins i) k row ws) (i + 1)
+  unfolding at
+  writing_more row ws k i d w h ek ew = record {
     limit = w.limit;
-    so_far = omega arith;
-    room = l;
-    front = λ j k. below j (omega arith) ∙ w.front j k;
-    each = λ j k. ⊎_elim (λ m. below (header + j) (omega arith) ∙ w.each j m) (λ m. here j m (omega arith)) (lt_or_le j (width * i));
-    rest = λ j k. e (header + j) ∙ written_above row (begins i) width (λ k. get_or ws k 0) (header + j) (omega arith) ∙ w.rest j (omega arith);
+    so_far = omega (arith, within);
+    room = stored-length row ws k (begins i) ek long there ∙ w.room;
+    front = λ j l. stored_below row ws k (begins i) ek long there j (omega arith) ∙ w.front j l;
+    each = λ j l. ⊎_elim (λ m. stored_below row ws k (begins i) ek long there (header + j) (omega arith) ∙ w.each j m) (λ m. here j m (omega arith)) (lt_or_le j (width * i));
+    rest = λ j l. stored_above row ws k (begins i) ek long there (header + j) (omega arith) ∙ w.rest j (omega arith);
   }
     where
-      below : (j : ℕ) → j < begins i → get_or row' j 0 ≡ get_or row j 0
-      below j k = e j ∙ written_below row (begins i) width (λ k. get_or ws k 0) j k
+      within : (i < n) × (i < length plan.templates)
+      within = omega (arith, length-take n plan.templates)
 
-      here : (j : ℕ) → width * i ≤ j → j < width * i + width → get_or row' (header + j) 0 ≡ word_in plan j
-      here j k m =
-          e (header + j) ∙ written_in row (begins i) width (λ k. get_or ws k 0) (header + j) (omega arith) (omega arith)
-          ∙ ap₂ (λ (ws : List ℕ) (k : ℕ). get_or ws k 0) (ew ∙ ap words_of et) place
-          ∙ sym (word_here plan i (j - width * i) (let q = w.limit in omega arith) (omega arith)) ∙ ap (word_in plan) back
+      long : length ws ≡ width
+      long = ap length ew ∙ length-words _
+
+      there : begins i + width ≤ length row
+      there = omega (arith, w.limit, w.room, within)
+
+      template : get_or (take n plan.templates) i d ≡ at plan i
+      template = get_or-take n plan.templates i d within.0 ∙ get_or_default plan.templates i d blank within.1
+
+      here : (j : ℕ) → width * i ≤ j → j < width * i + width → get_or (put_mid (begins i) k row ws) (header + j) 0 ≡ word_in plan j
+      here j l m =
+          ap (λ (j : ℕ). get_or (put_mid (begins i) k row ws) j 0) place
+          ∙ stored_in row ws k (begins i) ek long there (j - width * i) (omega arith)
+          ∙ ap (λ (ws : List ℕ). get_or ws (j - width * i) 0) (ew ∙ ap words_of template)
+          ∙ sym (word_here plan i (j - width * i) (omega (arith, w.limit, within)) (omega arith)) ∙ ap (word_in plan) back
         where
-          place : header + j - begins i ≡ j - width * i
+          place : header + j ≡ begins i + (j - width * i)
           place = omega arith
 
           back : width * i + (j - width * i) ≡ j
           back = omega arith
 
-  pub writing_room : (row : List ℕ) (i : ℕ) → Writing plan n row i → i < n → begins i + width ≤ length row
-  writing_room row i w h = omega (arith, w.limit, w.room)
-
-  pub writing_all : (row : List ℕ) (i : ℕ) → Writing plan n row i → n ≤ i → row ≡ row_of_plan plan
+  pub writing_all : (row : List ℕ) (i : ℕ) → Writing plan n row i → length (take n plan.templates) ≤ i → row ≡ row_of_plan plan
   writing_all row i w h = ext_get_or 0 row (row_of_plan plan) (w.room ∙ sym (length-row plan)) at_each
     where
-      past : (j : ℕ) → j < width * 64 → width * i ≤ j → plan.count ≤ j / width
-      past j l m = omega (arith, w.limit, w.so_far)
+      past : (j : ℕ) → j < width * 64 → width * i ≤ j → word_in plan j ≡ 0
+      past j l m =
+          ⊎_elim (λ k. word_lacking plan j (omega (arith, w.limit, k, length-take n plan.templates))) (λ k. word_past plan j k)
+          (lt_or_le (j / width) plan.count)
 
       behind : (j : ℕ) → j < width * 64 → get_or row (header + j) 0 ≡ get_or (row_of_plan plan) (header + j) 0
       behind j l =
-          ⊎_elim (w.each j) (λ m. w.rest j m ∙ sym (word_past plan j (past j l m))) (lt_or_le j (width * i))
+          ⊎_elim (w.each j) (λ m. w.rest j m ∙ sym (past j l m)) (lt_or_le j (width * i))
           ∙ sym (row_behind plan j l)
 
       from_header : (j k : ℕ) → header + k ≡ j → k < width * 64 → get_or row j 0 ≡ get_or (row_of_plan plan) j 0

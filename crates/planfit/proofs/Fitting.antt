@@ -1,22 +1,24 @@
 -- The plan's part of refusal 20 in the words of a row: the row stands for `plan_for row`.
-use Prim.Native.Nat.{ℕ, zero, suc, ◌+◌, ◌-◌, ◌^◌, ◌≤◌, ◌<◌}
+use Prim.Native.Nat.{ℕ, zero, suc, ◌+◌, ◌^◌, min, ◌≤◌, ◌<◌}
 use mathlib.Core.Path.{◌≡◌, refl, sym, ap, ap₂, ◌∙◌}
-use mathlib.Core.Logic.{⊎_elim}
-use mathlib.Core.Bool.{Bool, true, false, not, ◌&&◌, ◌||◌, and-true, and-false, and_assoc}
-use mathlib.Core.List.{List}
+use mathlib.Core.Logic.{◌⊎◌, inl, inr, ⊎_elim}
+use mathlib.Core.Bool.{Bool, true, false, not, ◌&&◌, ◌||◌, and-true, and_assoc}
+use mathlib.Core.List.{List, [], ◌∷◌}
 use native.Mathlib.Omega.{arith}
-use lib.ListN.{get_or}
+use lib.ListN.{length, get_or, take}
+use lib.Seq.{get_or-take, length-take-le}
 use lib.Dec.{ltb, leb}
-use lib.Pow.{pow_pos}
+use lib.Pow.{pow_mono}
 use lib.Bits.{bit_or, and_le_r, or_comm, or_lt, or_add_and}
 use borrow.Author.Tests.{le-ltb, lt-ltb, ltb-true, le-leb, lt-leb, leb-true}
-use Rattle.lists.specs.Numbers.{every, all}
+use Rattle.lists.specs.Numbers.{every, tabulate, all}
 use Rattle.lists.proofs.Tests.{lt_or_le, and_left, and_right, and_of, fails, passes_fails, same_test}
-use Rattle.lists.proofs.Every.{every_ext, every_and, every_start, every_acc, every_done}
+use Rattle.lists.proofs.Every.{every_ext, every_and, every_done}
+use Rattle.lists.proofs.Tabulate.{length-tabulate, get_or-tabulate}
 use Rattle.plan.specs.declared.Template.{Template}
 use Rattle.plan.specs.Plan.{at, successors, masks, template_fits}
 use Rattle.machine.specs.Machine.{plan_fits}
-use Rattle.planrow.specs.Row.{risk_word, count_in, identifiers_in, word_at, form_of, template_of, is_template, template_in, is_plan}
+use Rattle.planrow.specs.Row.{count_in, identifiers_in, word_at, form_of, template_of, is_template, template_in, is_plan}
 use Rattle.planrow.specs.Lookup.{part_at, word, plan_for}
 use Rattle.planrow.proofs.Reading.{plan-template}
 use Rattle.planrow.proofs.Parts.{part-tested, part-template}
@@ -39,15 +41,15 @@ module _ (n m : ℕ) where
   at_least : ltb 0 n ≡ not (ltb n 1)
   at_least = ⊎_elim (λ h. rw (le-ltb 0 n (omega arith), lt-ltb n 1 h)) (λ h. rw (lt-ltb 0 n h, le-ltb n 1 h)) (lt_or_le n 1)
 
-  counts_asked : (ltb 0 n && (leb n 64 && leb m 32)) ≡ not (ltb n 1 || (ltb 64 n || ltb 32 m))
+  counts_asked : (ltb 0 n && (leb n 64 && leb m 32)) ≡ not (ltb n 1 || ltb 64 n || ltb 32 m)
   counts_asked = ap₂ ◌&&◌ at_least (ap₂ ◌&&◌ (not_below n 64) (not_below m 32)) ∙ go (ltb n 1) (ltb 64 n) (ltb 32 m)
     where
-      go : (a b c : Bool) → (not a && (not b && not c)) ≡ not (a || (b || c))
+      go : (a b c : Bool) → (not a && (not b && not c)) ≡ not (a || b || c)
       go true b c = refl
       go false true c = refl
       go false false c = refl
 
-  pub counted : (ltb n 1 || (ltb 64 n || ltb 32 m)) ≡ false → Counted n m
+  pub counted : (ltb n 1 || ltb 64 n || ltb 32 m) ≡ false → Counted n m
   counted e =
       let q : (ltb 0 n && (leb n 64 && leb m 32)) ≡ true = counts_asked ∙ ap not e in
       record {
@@ -69,9 +71,24 @@ module _ (row : List ℕ) where
   abbrev fits : ℕ → ℕ → Bool
   fits n m = counts n m && every n (fits_at n m)
 
-  -- The code asks the first of the words that it lends.
-  pub fits_part : (X n m : ℕ) (ws : List ℕ) (r : Bool) → ws ≡ part_at row X → r ≡ (is_template (word ws) && template_fits n m (template_of (word ws))) → r ≡ fits_at n m X
-  fits_part X n m ws r w e = e ∙ ap₂ (λ (b : Bool) (t : Template). b && template_fits n m t) (part-tested row X ws w) (part-template row X ws w)
+  -- Of all templates' words the code passes the first n.
+  module _ (n : ℕ) (all : List (List ℕ)) (e : all ≡ tabulate 64 (part_at row)) where
+    pub passed_count : n ≤ 64 → length (take n all) ≡ n
+    passed_count few = length-take-le n all (omega (arith, ap length e ∙ length-tabulate 64 (part_at row)))
+
+    -- It asks each of them.
+    pub passed : (m X : ℕ) (d : List ℕ) (r : Bool) → n ≤ 64 → X < length (take n all)
+        → r ≡ (is_template (word (get_or (take n all) X d)) && template_fits n m (template_of (word (get_or (take n all) X d)))) → r ≡ fits_at n m X
+    passed m X d r few h q =
+        q ∙ ap₂ (λ (b : Bool) (t : Template). b && template_fits n m t) (part-tested row X _ part) (part-template row X _ part)
+      where
+        within : X < n
+        within = omega (arith, passed_count few)
+
+        part : get_or (take n all) X d ≡ part_at row X
+        part =
+            get_or-take n all X d within ∙ ap (λ (all : List (List ℕ)). get_or all X d) e
+            ∙ get_or-tabulate 64 (part_at row) X d (omega (arith, within))
 
   abbrev N : ℕ
   N = count_in row
@@ -111,13 +128,17 @@ module _ (row : List ℕ) where
     by_counts : plan_fits (plan_for row) ≡ fits n m
     by_counts = in_words ∙ sym (ap₂ fits en em)
 
-    pub row_uncounted : (ltb n 1 || (ltb 64 n || ltb 32 m)) ≡ true → false ≡ plan_fits (plan_for row)
+    pub row_uncounted : (ltb n 1 || ltb 64 n || ltb 32 m) ≡ true → false ≡ plan_fits (plan_for row)
     row_uncounted e =
         sym (by_counts ∙ ap (λ (b : Bool). b && every n (fits_at n m)) (counts_asked n m ∙ ap not e))
 
-    pub row_gathered : (i : ℕ) (r : Bool) → Counted n m → i ≤ n → n ≤ i → r ≡ every i (fits_at n m) → r ≡ plan_fits (plan_for row)
-    row_gathered i r k a b e =
-        every_done n (fits_at n m) i r a b e ∙ sym (by_counts ∙ rw (lt-ltb 0 n k.some, le-leb n 64 k.few, le-leb m 32 k.narrow))
+    pub row_gathered : (all : List (List ℕ)) → all ≡ tabulate 64 (part_at row) → (ltb n 1 || ltb 64 n || ltb 32 m) ≡ false
+        → (i : ℕ) (r : Bool) → i ≤ length (take n all) → length (take n all) ≤ i → r ≡ every i (fits_at n m) → r ≡ plan_fits (plan_for row)
+    row_gathered all p c i r a b e =
+        let k = counted n m c in
+        let l = passed_count n all p k.few in
+        every_done n (fits_at n m) i r (omega (arith, l)) (omega (arith, l)) e
+        ∙ sym (by_counts ∙ rw (lt-ltb 0 n k.some, le-leb n 64 k.few, le-leb m 32 k.narrow))
 
 -- ---- a template's words
 
@@ -130,14 +151,20 @@ successors-below (suc (suc zero)) y z n = ap (λ (b : Bool). ltb y n && b) (sym 
 successors-below (suc (suc (suc k))) y z n =
     rw (le-ltb (suc (suc (suc k))) 1 (omega arith), le-ltb (suc (suc (suc k))) 2 (omega arith)) (ap (λ (b : Bool). ltb y n && b) (sym (and-true (ltb z n))))
 
-module _ (y n : ℕ) (lacking : Bool) where
-  pub successor_lacking : lacking ≡ true → leb y 255 ≡ (leb y 255 && (lacking || ltb y n))
-  successor_lacking e = rw e (sym (and-true (leb y 255)))
-
-  -- What is below N is a byte.
-  pub successor_there : n ≤ 64 → lacking ≡ false → ltb y n ≡ (leb y 255 && (lacking || ltb y n))
-  successor_there few e =
-      rw e (same_test _ _ (λ h. and_of _ _ (le-leb y 255 (let l = ltb-true y n h in omega arith)) h) (and_right (leb y 255) (ltb y n)))
+-- A mask is compared with the greatest; every mask is below a power past its width.
+pub mask_fits : (mask m full : ℕ) → mask < 2 ^ 32 → full + 1 ≡ 2 ^ min m 32 → leb mask full ≡ ltb mask (2 ^ m)
+mask_fits mask m full h e =
+    same_test _ _
+    (λ t.
+    let k : min m 32 ≤ m = omega arith in
+    let l = leb-true mask full t in
+    let q : 2 ^ min m 32 ≤ 2 ^ m = pow_mono k in
+    lt-ltb mask (2 ^ m) (omega (arith, e)))
+    (λ t. le-leb mask full (let l = within t (lt_or_le m 32) in omega (arith, e)))
+  where
+    within : ltb mask (2 ^ m) ≡ true → (m < 32) ⊎ (32 ≤ m) → mask < 2 ^ min m 32
+    within t (inl l) = let q : min m 32 ≡ m = omega arith in rw q (ltb-true mask (2 ^ m) t)
+    within t (inr l) = let q : min m 32 ≡ 32 = omega arith in rw q h
 
 -- Of two masks both are below a power of 2 exactly where what is in either is.
 or_below : (m a b : ℕ) → ltb (bit_or a b) (2 ^ m) ≡ (ltb a (2 ^ m) && ltb b (2 ^ m))
@@ -150,55 +177,39 @@ or_below m a b =
     le_or : (a b : ℕ) → a ≤ bit_or a b
     le_or a b = omega (arith, or_add_and a b, and_le_r a b)
 
--- The code tests each successor as a byte and as a successor at once.
-regrouped : (a b c d p q r : Bool) → (a && ((b && p) && ((c && q) && (d && r)))) ≡ ((a && (b && (c && d))) && ((p && q) && r))
-regrouped false b c d p q r = refl
-regrouped true false c d p q r = refl
-regrouped true true false d p q r = and-false p
-regrouped true true true false true q r = and-false q
-regrouped true true true false false q r = refl
-regrouped true true true true p q r = sym (and_assoc p q r)
+-- So of those of a template.
+masks_below : (m a b c d : ℕ) → ltb (bit_or (bit_or (bit_or a b) c) d) (2 ^ m) ≡ all (λ mask. ltb mask (2 ^ m)) (a ∷ b ∷ c ∷ d ∷ [])
+unfolding all
+masks_below m a b c d =
+    or_below m (bit_or (bit_or a b) c) d
+    ∙ ap (λ (t : Bool). t && D) (or_below m (bit_or a b) c ∙ ap (λ (t : Bool). t && C) (or_below m a b))
+    ∙ and_assoc (A && B) C D ∙ and_assoc A B (C && D)
+    ∙ ap (λ (t : Bool). A && (B && (C && t))) (sym (and-true D))
+  where
+    A : Bool
+    A = ltb a (2 ^ m)
 
-module _ (ws : List ℕ) (n m : ℕ) where
-  -- s, t and r are the answers of `successor_fits` and `are_masks`.
-  pub template_gathered : (s t r : Bool)
-      → s ≡ (leb (word ws 1) 255 && (ltb (word ws 0) 1 || ltb (word ws 1) n))
-      → t ≡ (leb (word ws 2) 255 && (ltb (word ws 0) 2 || ltb (word ws 2) n))
-      → r ≡ all (λ mask. ltb mask (2 ^ m)) (masks (template_of (word ws)))
-      → (leb (word ws 0) 3 && (s && (t && (leb (word ws 7) 1 && r)))) ≡ (is_template (word ws) && template_fits n m (template_of (word ws)))
-  unfolding is_template template_fits template_of
-  template_gathered s t r es et er =
-      (λ i. leb (word ws 0) 3 && (es i && (et i && (leb (word ws 7) 1 && er i))))
-      ∙ regrouped (leb (word ws 0) 3) (leb (word ws 1) 255) (leb (word ws 2) 255) (leb (word ws 7) 1) _ _ _
-      ∙ ap (λ (b : Bool). is_template (word ws) && (b && all (λ mask. ltb mask (2 ^ m)) (masks (template_of (word ws)))))
-      (successors-below (word ws 0) (word ws 1) (word ws 2) n)
+    B : Bool
+    B = ltb b (2 ^ m)
 
--- What is joined of the masks among the words below k is below 2 ^ m exactly where each of them is.
-pub record Joined (ws : List ℕ) (m joined k : ℕ) : Type 0 where
-  pub begun : 3 ≤ k
-  pub so_far : k ≤ risk_word
-  pub below : ltb joined (2 ^ m) ≡ every (k - 3) (λ j. ltb (word ws (3 + j)) (2 ^ m))
+    C : Bool
+    C = ltb c (2 ^ m)
 
-module _ (ws : List ℕ) (m : ℕ) where
-  pub joined_none : Joined ws m 0 3
-  joined_none = record { begun = omega arith; so_far = omega arith; below = lt-ltb 0 (2 ^ m) (pow_pos m) ∙ every_start _ }
+    D : Bool
+    D = ltb d (2 ^ m)
 
-  module _ (joined k : ℕ) (s : Joined ws m joined k) where
-    pub joined_more : k < risk_word → Joined ws m (bit_or joined (get_or ws k 0)) (k + 1)
-    joined_more h =
-        let l = s.begun in
-        let place : k ≡ 3 + (k - 3) = omega arith in
-        let next : k - 3 + 1 ≡ k + 1 - 3 = omega arith in
-        record {
-          begun = omega arith;
-          so_far = omega arith;
-          below =
-              ap (λ (j : ℕ). ltb (bit_or joined (get_or ws j 0)) (2 ^ m)) place ∙ or_below m joined _ ∙ every_acc (k - 3) _ _ s.below
-              ∙ ap (λ (i : ℕ). every i (λ j. ltb (word ws (3 + j)) (2 ^ m))) next;
-        }
+-- t and r are the answers of `is_template` and `is_mask`.
+pub template_gathered : (ws : List ℕ) (n m : ℕ) (t r : Bool) → t ≡ is_template (word ws)
+    → r ≡ ltb (bit_or (bit_or (bit_or (word ws 3) (word ws 4)) (word ws 5)) (word ws 6)) (2 ^ m)
+    → (t && (ltb (word ws 0) 1 || ltb (word ws 1) n) && (ltb (word ws 0) 2 || ltb (word ws 2) n) && r)
+    ≡ (is_template (word ws) && template_fits n m (template_of (word ws)))
+unfolding template_fits template_of masks
+template_gathered ws n m t r et er =
+    and_assoc (t && a) b r ∙ and_assoc t a (b && r) ∙ sym (ap (λ (c : Bool). t && c) (and_assoc a b r))
+    ∙ (λ i. et i && (successors-below (word ws 0) (word ws 1) (word ws 2) n i && (er ∙ masks_below m (word ws 3) (word ws 4) (word ws 5) (word ws 6)) i))
+  where
+    a : Bool
+    a = ltb (word ws 0) 1 || ltb (word ws 1) n
 
-    -- r is the answer of `is_mask`.
-    pub joined_all : (r : Bool) → risk_word ≤ k → r ≡ ltb joined (2 ^ m) → r ≡ all (λ mask. ltb mask (2 ^ m)) (masks (template_of (word ws)))
-    unfolding every all masks template_of
-    joined_all r h q =
-        let l = s.so_far in q ∙ every_done (risk_word - 3) _ (k - 3) _ (omega arith) (omega arith) s.below
+    b : Bool
+    b = ltb (word ws 0) 2 || ltb (word ws 2) n

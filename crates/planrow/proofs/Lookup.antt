@@ -1,16 +1,18 @@
 -- A template looked up in a row is that of the plan that the row stands for.
-use Prim.Native.Nat.{ℕ, ◌≤◌, ◌<◌}
+use Prim.Native.Nat.{ℕ, ◌<◌}
 use mathlib.Core.Path.{◌≡◌, refl, sym, ap, ap₂, subst, ◌∙◌}
-use mathlib.Core.Bool.{Bool, true, false, cond, ◌&&◌}
+use mathlib.Core.Bool.{Bool, true, false, cond}
 use mathlib.Core.List.{List}
 use mathlib.Core.Option.{none, some}
 use native.Mathlib.Omega.{arith}
 use Rattle.std.proofs.Common.{Option, Some, None}
-use Rattle.std.specs.Option.{UnwrapsOrElse}
-use lib.ListN.{get_or}
+use Rattle.std.specs.Option.{is_some, IfSome, MatchOption, UnwrapsOrElse}
+use denote.Bor.{Bor}
+use lib.ListN.{length, get_or}
 use lib.Dec.{ltb}
-use borrow.Author.Tests.{lt-ltb, le-ltb}
-use Rattle.lists.proofs.Tabulate.{get_or-tabulate}
+use borrow.Author.Tests.{lt-ltb, ltb-true}
+use Rattle.lists.specs.Numbers.{tabulate}
+use Rattle.lists.proofs.Tabulate.{length-tabulate, get_or-tabulate}
 use Rattle.plan.specs.declared.Template.{Template}
 use Rattle.plan.specs.declared.Plan.{Plan}
 use Rattle.plan.specs.Plan.{blank, at}
@@ -23,21 +25,34 @@ use Rattle.planrow.proofs.Reading.{plan_count, plan-template}
 -- ---- the ways of a look-up
 
 module _ (row : List ℕ) (X : ℕ) where
-  pub look_past : 64 ≤ X → blank ≡ template_at row X
+  inside : ltb X 64 ≡ true → template_at row X ≡ cond (is_template (word_at row X)) (template_in row X) blank
   unfolding template_at
-  look_past h = sym (ap (λ (b : Bool). cond (b && is_template (word_at row X)) (template_in row X) blank) (le-ltb X 64 h))
+  inside e = rw e refl
 
-  inside : X < 64 → template_at row X ≡ cond (is_template (word_at row X)) (template_in row X) blank
+  past : ltb X 64 ≡ false → template_at row X ≡ blank
   unfolding template_at
-  inside h = rw (lt-ltb X 64 h) refl
+  past e = rw e refl
 
-  -- ws are the words, o the template that they stand for, r that or the blank one.
-  pub looked : X < 64 → (ws : List ℕ) → ws ≡ part_at row X → (o : Option Template) → o ≡ template_meant (word ws)
+  long : (all : List (List ℕ)) → all ≡ tabulate 64 (part_at row) → ltb X (length all) ≡ ltb X 64
+  long all e = ap (ltb X) (ap length e ∙ length-tabulate 64 (part_at row))
+
+  -- Of all templates' words the code gets those at X; o is the template that they stand for, r that or the blank one.
+  pub looked : (all : List (List ℕ)) → all ≡ tabulate 64 (part_at row)
+      → (got : Option (Bor (List ℕ))) → is_some got ≡ ltb X (length all) → IfSome got (λ ws. ws.now ≡ get_or all X ws.now)
+      → (o : Option Template) → MatchOption got (o ≡ None) (λ ws. o ≡ template_meant (word ws.now))
       → (r : Template) → UnwrapsOrElse o (λ t. t ≡ blank) r → r ≡ template_at row X
-  looked h ws w o eo r u =
-      or_blank (is_template (word ws)) (template_of (word ws)) (subst (λ (o : Option Template). UnwrapsOrElse o (λ t. t ≡ blank) r) eo u)
-      ∙ ap₂ (λ (b : Bool) (t : Template). cond b t blank) (part-tested row X ws w) (part-template row X ws w) ∙ sym (inside h)
+  looked all e None s i o eo r u = subst (λ (o : Option Template). UnwrapsOrElse o (λ t. t ≡ blank) r) eo u ∙ sym (past (sym (s ∙ long all e)))
+  looked all e (Some ws) s i o eo r u =
+      or_blank (is_template (word ws.now)) (template_of (word ws.now)) (subst (λ (o : Option Template). UnwrapsOrElse o (λ t. t ≡ blank) r) eo u)
+      ∙ ap₂ (λ (b : Bool) (t : Template). cond b t blank) (part-tested row X ws.now w) (part-template row X ws.now w)
+      ∙ sym (inside l)
     where
+      l : ltb X 64 ≡ true
+      l = sym (s ∙ long all e)
+
+      w : ws.now ≡ part_at row X
+      w = i ∙ ap (λ (all : List (List ℕ)). get_or all X ws.now) e ∙ get_or-tabulate 64 (part_at row) X ws.now (ltb-true X 64 l)
+
       or_blank : (b : Bool) (t : Template) → UnwrapsOrElse (cond b (Some t) None) (λ t. t ≡ blank) r → r ≡ cond b t blank
       or_blank true t u = u
       or_blank false t u = u
@@ -88,5 +103,5 @@ module _ (row : List ℕ) (e : is_plan row ≡ true) where
 
   pub looked_up : (X : ℕ) → X < count_in row → template_at row X ≡ at (plan_for row) X
   looked_up X h =
-      inside row X (let q = plan_count row e in omega arith)
+      inside row X (lt-ltb X 64 (let q = plan_count row e in omega arith))
       ∙ ap (λ (b : Bool). cond b (template_in row X) blank) (plan-template row e X h) ∙ sym (stands_at X h)

@@ -1,29 +1,39 @@
 -- A template's words as the code lends them, a part of the row: what is read of the part is read of the row.
-use Prim.Native.Nat.{ℕ, ◌+◌, ◌-◌, ◌≤◌, ◌<◌}
-use mathlib.Core.Path.{◌≡◌, sym, ap, ◌∙◌}
-use mathlib.Core.List.{List}
+use Prim.Native.Nat.{ℕ, zero, suc, ◌+◌, ◌-◌, ◌*◌, ◌/◌, ◌<◌}
+use mathlib.Core.Path.{◌≡◌, refl, ap, ap₂, ◌∙◌}
+use mathlib.Core.List.{List, ◌∷◌}
 use native.Mathlib.Omega.{arith}
-use lib.ListN.{length, take, drop, length-drop, drop_of_length-le}
-use lib.Seq.{get_or-take, get_or-drop, length-take-le}
-use Rattle.planrow.specs.Row.{width, words, begins, word_at, template_of, is_template, template_in}
+use lib.ListN.{length, take, drop, length-drop}
+use lib.Seq.{get_or-take, get_or-drop, drop-drop, take_all}
+use Rattle.std.specs.Simd.{first_chunks}
+use Rattle.lists.specs.Numbers.{tabulate}
+use Rattle.lists.proofs.Tabulate.{tabulate_ext}
+use Rattle.planrow.specs.Row.{header, width, words, begins, word_at, template_of, is_template, template_in}
 use Rattle.planrow.specs.Lookup.{part_at, word}
 use Rattle.planrow.proofs.Reading.{template_ext, is_template_ext}
 
+-- The parts of a row from o on, as the library cuts them.
+parts_from : (k o : ℕ) (row : List ℕ) → first_chunks width k (drop o row) ≡ tabulate k (λ X. take width (drop (o + width * X) row))
+unfolding tabulate
+parts_from zero o row = refl
+parts_from (suc k) o row =
+    ap₂ ◌∷◌ (ap (λ (n : ℕ). take width (drop n row)) (omega arith))
+    (ap (first_chunks width k) (drop-drop width o row)
+    ∙ parts_from k (o + width) row
+    ∙ tabulate_ext k _ _ (λ X h. ap (λ (n : ℕ). take width (drop n row)) (omega arith)))
+
+pub parts_cut : (row : List ℕ) → length row ≡ words → (after : List ℕ) → after ≡ take (words - header) (drop header row)
+    → (all : List (List ℕ)) → all ≡ first_chunks width (length after / width) after → all ≡ tabulate 64 (part_at row)
+unfolding part_at
+parts_cut row e after c all q = q ∙ ap₂ (first_chunks width) count whole ∙ parts_from 64 header row
+  where
+    whole : after ≡ drop header row
+    whole = c ∙ take_all (words - header) (drop header row) (omega (arith, length-drop header row))
+
+    count : length after / width ≡ 64
+    count = let l : length after ≡ words - header = ap length whole ∙ length-drop header row ∙ ap (λ (n : ℕ). n - header) e in omega arith
+
 module _ (row : List ℕ) (X : ℕ) where
-  pub part_lent : take (begins X + width - begins X) (drop (begins X) row) ≡ part_at row X
-  unfolding part_at
-  part_lent = ap (λ (n : ℕ). take n (drop (begins X) row)) (let e : begins X + width - begins X ≡ width = omega arith in e)
-
-  pub part_long : length row ≡ words → X < 64 → length (take (begins X + width - begins X) (drop (begins X) row)) ≡ width
-  part_long e l =
-      length-take-le (begins X + width - begins X) (drop (begins X) row) (simp length-drop (omega arith))
-      ∙ (let q : begins X + width - begins X ≡ width = omega arith in q)
-
-  -- Past the last place the row has none.
-  pub part_past : length row ≡ words → 64 ≤ X → take (words - words) (drop words row) ≡ part_at row X
-  unfolding part_at
-  part_past e h = sym (ap (take width) (drop_of_length-le row {i = begins X} (omega arith)))
-
   module _ (ws : List ℕ) (e : ws ≡ part_at row X) where
     part-word : (k : ℕ) → k < width → word ws k ≡ word_at row X k
     unfolding part_at word_at

@@ -1,17 +1,19 @@
 -- Where the words of a plan's row stand: the header's in front, and template X's from `begins X` on.
-use Prim.Native.Nat.{ℕ, ◌+◌, ◌*◌, ◌/◌, ◌%◌, min, ◌≤◌, ◌<◌}
+use Prim.Native.Nat.{ℕ, zero, ◌+◌, ◌*◌, ◌/◌, ◌%◌, min, ◌≤◌, ◌<◌}
 use mathlib.Core.Path.{◌≡◌, refl, sym, ap, ap₂, ◌∙◌}
-use mathlib.Core.Bool.{Bool, cond}
+use mathlib.Core.Bool.{Bool, true, false, cond}
 use native.Mathlib.Omega.{arith}
-use lib.ListN.{length, get_or, length-append, get_or-append}
+use lib.ListN.{length, get_or, length-append, get_or-append, get_or-eq_default}
 use lib.Seq.{get_or-append-add}
 use lib.Dec.{ltb}
 use borrow.Author.Tests.{lt-ltb, le-ltb}
 use Rattle.lists.specs.Numbers.{tabulate}
 use Rattle.lists.proofs.Tabulate.{length-tabulate, get_or-tabulate}
+use Rattle.lists.proofs.Length.{get_or-same}
 use Rattle.plan.specs.declared.Plan.{Plan}
-use Rattle.plan.specs.Plan.{at}
-use Rattle.planrow.specs.Row.{header, width, words, begins, count_in, identifiers_in, word_at, words_of, word_in, header_of, row_of_plan}
+use Rattle.plan.specs.declared.Template.{Template}
+use Rattle.plan.specs.Plan.{at, blank, masks}
+use Rattle.planrow.specs.Row.{header, width, words, begins, count_in, identifiers_in, word_at, form_number, first_of, second_of, words_of, word_in, header_of, row_of_plan}
 
 module _ (plan : Plan) where
   -- Word k of template X.
@@ -31,6 +33,18 @@ module _ (plan : Plan) where
   unfolding word_in
   word_past j h =
       ap (λ (b : Bool). cond b (get_or (words_of (at plan (j / width))) (j % width) 0) 0) (le-ltb (j / width) plan.count h)
+
+  -- A template that the plan has no place for is the blank one, whose words are 0.
+  pub word_lacking : (j : ℕ) → length plan.templates ≤ j / width → word_in plan j ≡ 0
+  unfolding word_in at words_of masks form_number first_of second_of
+  word_lacking j h =
+      ap (λ (t : Template). cond (ltb (j / width) plan.count) (get_or (words_of t) (j % width) 0) 0) (get_or-eq_default plan.templates blank h)
+      ∙ ap (λ (k : ℕ). cond (ltb (j / width) plan.count) k 0) (get_or-same ℕ width (j % width) 0)
+      ∙ same (ltb (j / width) plan.count)
+    where
+      same : (b : Bool) → cond b zero zero ≡ zero
+      same true = refl
+      same false = refl
 
   length-header : length (header_of plan) ≡ header
   unfolding header_of

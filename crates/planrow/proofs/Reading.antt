@@ -1,9 +1,10 @@
 -- What the readers of a row meet: a form by its number, a template by its words, the tests one by one.
 use Prim.Native.Nat.{ℕ, zero, suc, ◌≤◌, ◌<◌}
-use mathlib.Core.Path.{◌≡◌, refl, ap}
-use mathlib.Core.Bool.{Bool, true, false, ◌&&◌}
+use mathlib.Core.Path.{◌≡◌, refl, sym, ap, ◌∙◌}
+use mathlib.Core.Bool.{Bool, true, false, ◌&&◌, and_assoc}
 use mathlib.Core.List.{List}
 use native.Mathlib.Omega.{arith}
+use Rattle.std.proofs.Common.{Some}
 use lib.Dec.{eqb, leb}
 use mir.Val.{Fits}
 use mir.Syntax.{w8}
@@ -12,7 +13,7 @@ use Rattle.lists.proofs.Tests.{and_left, and_right}
 use Rattle.lists.proofs.Every.{every_at}
 use Rattle.plan.specs.declared.{Form.{Form, TheVariants.{End, Go, Either, Both}}, Template.{Template}}
 use Rattle.planrow.specs.Row.{width, count_in, word_at, form_of, template_of, is_template, is_plan}
-use Rattle.planrow.specs.Lookup.{word}
+use Rattle.planrow.specs.Lookup.{word, template_meant}
 
 -- ---- a form by its number
 
@@ -24,9 +25,9 @@ pub form_go : (n Y Z : ℕ) → n ≡ 1 → Go Y ≡ form_of n Y Z
 unfolding form_of
 form_go n Y Z e = rw e
 
-pub form-either : (n Y Z : ℕ) → n ≡ 2 → Either Y Z ≡ form_of n Y Z
+pub form_either : (n Y Z : ℕ) → n ≡ 2 → Either Y Z ≡ form_of n Y Z
 unfolding form_of
-form-either n Y Z e = rw e
+form_either n Y Z e = rw e
 
 pub form_both : (n Y Z : ℕ) → (n ≡ 0 → ⊥) → (n ≡ 1 → ⊥) → (n ≡ 2 → ⊥) → Both Y Z ≡ form_of n Y Z
 unfolding form_of
@@ -57,18 +58,25 @@ is_template_ext v w e = λ i.
     && (leb (e 1 (omega arith) i) 255 && (leb (e 2 (omega arith) i) 255 && leb (e 7 (omega arith) i) 1))
 
 module _ (ws : List ℕ) where
-  -- As the code makes it of its words.
+  -- As the code tests them,
+  pub tested : (leb (word ws 0) 3 && leb (word ws 1) 255 && leb (word ws 2) 255 && leb (word ws 7) 1) ≡ is_template (word ws)
+  unfolding is_template
+  tested =
+      and_assoc (leb (word ws 0) 3 && leb (word ws 1) 255) (leb (word ws 2) 255) (leb (word ws 7) 1)
+      ∙ and_assoc (leb (word ws 0) 3) (leb (word ws 1) 255) (leb (word ws 2) 255 && leb (word ws 7) 1)
+
+  -- and as it makes it of its words.
   abbrev made : Form → Template
   made form = record { form = form; lab = word ws 3; pos = word ws 4; neg = word ws 5; creates = word ws 6; risk = eqb (word ws 7) 1 }
 
-  pub template_whole : (form : Form) → form ≡ form_of (word ws 0) (word ws 1) (word ws 2) → made form ≡ template_of (word ws)
-  unfolding template_of
-  template_whole form e = ap made e
+  module _ (e : true ≡ is_template (word ws)) where
+    pub template_told : (form : Form) → form ≡ form_of (word ws 0) (word ws 1) (word ws 2) → Some (made form) ≡ template_meant (word ws)
+    unfolding template_of
+    template_told form q = rw (sym e) (ap (λ (form : Form). Some (made form)) q)
 
-  module _ (e : is_template (word ws) ≡ true) where
     rest : (leb (word ws 1) 255 && (leb (word ws 2) 255 && leb (word ws 7) 1)) ≡ true
     unfolding is_template
-    rest = and_right (leb (word ws 0) 3) _ e
+    rest = and_right (leb (word ws 0) 3) _ (sym e)
 
     pub first_byte : Fits w8 (word ws 1)
     first_byte = let h : word ws 1 ≤ 255 = leb-true _ _ (and_left (leb (word ws 1) 255) _ rest) in omega arith

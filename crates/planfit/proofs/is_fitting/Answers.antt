@@ -1,21 +1,21 @@
--- The counts; then the loop has gathered the test of the first i templates.
+-- The counts; then the loop has gathered the test of the templates that it passed.
 use native.Mathlib.Omega.{arith}
-use borrow.Author.Rules.{rules}
 use Rattle.lists.proofs.Every.{every_start, every_told}
-use Rattle.planfit.proofs.Fitting.{fits_part, counted, row_uncounted, row_gathered}
+use Rattle.planfit.proofs.Fitting.{counted, passed, row_uncounted, row_gathered}
 use Rattle.planfit.proofs.is_fitting.Goals as goal
 
 pub returns-then-n-m : goal.returns-then-n-m
 returns-then-n-m c = search row_uncounted
 
-pub loop-i-init : goal.loop-i-init
-loop-i-init c = (search counted, every_start _)
+pub loop-words-init : goal.loop-words-init
+loop-words-init c = every_start _
 
-pub template_fits-fits-requires : goal.template_fits-fits-requires
-template_fits-fits-requires c = (c.words_at.ensures.room (omega arith), search rules, search rules)
-
-pub loop-i-preserved : goal.loop-i-preserved
-loop-i-preserved c = (c.loop-i.invariant.0, every_told _ _ _ _ c.loop-i.invariant.1 (search fits_part))
+pub loop-words-preserved : goal.loop-words-preserved
+loop-words-preserved c =
+    every_told _ _ _ _ c.loop-words.invariant
+    (passed _ _ _ c.templates.ensures.parts _ _ _ _ (counted _ _ c.if-n-m.false).few c.loop-words-test.true c.template_fits-fits.ensures)
 
 pub returns : goal.returns
-returns c = search row_gathered
+returns c =
+    row_gathered _ _ _ c.template_count-n.ensures c.identifier_count-m.ensures _ c.templates.ensures.parts c.if-n-m.false _ _
+    c.loop-words.auto.words-index-end (omega arith) c.loop-words.invariant

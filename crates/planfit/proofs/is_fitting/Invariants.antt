@@ -1,7 +1,7 @@
 use mathlib.Core.Path.{◌≡◌}
 use Rattle.lists.specs.Numbers.{every}
-use Rattle.planfit.proofs.Fitting.{fits_at, Counted}
+use Rattle.planfit.proofs.Fitting.{fits_at}
 use Rattle.planfit.proofs.is_fitting.Given as goal
 
-abbrev pub invariant-loop-i : goal.invariant-loop-i
-invariant-loop-i l = Counted l.n l.m × (l.fits ≡ every l.i (fits_at l.row l.n l.m))
+abbrev pub invariant-loop-words : goal.invariant-loop-words
+invariant-loop-words l = (l.fits ≡ every l.words-index (fits_at l.row l.n l.m))

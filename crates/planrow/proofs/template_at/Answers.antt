@@ -1,14 +1,6 @@
--- As the look-up goes: past the places, and the words there.
-use mathlib.Core.Path.{◌∙◌}
-use native.Mathlib.Omega.{arith}
-use Rattle.planrow.proofs.Lookup.{look_past, looked}
+-- As the look-up goes.
+use Rattle.planrow.proofs.Lookup.{looked}
 use Rattle.planrow.proofs.template_at.Goals as goal
 
-pub returns-then-x-ge64 : goal.returns-then-x-ge64
-returns-then-x-ge64 c = c.default.ensures ∙ search look_past
-
-pub template_in-requires : goal.template_in-requires
-template_in-requires c = c.words_at.ensures.room (omega arith)
-
 pub returns : goal.returns
-returns c = looked _ _ (omega arith) _ c.words_at.ensures.result_value _ c.template_in.ensures _ c.unwrap_or_default.ensures
+returns c = looked _ _ _ c.templates.ensures.parts _ c.get.ensures.lookup.0 c.get.ensures.lookup.1 _ c.and_then.ensures _ c.unwrap_or_default.ensures
