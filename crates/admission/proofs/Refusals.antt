@@ -2,14 +2,14 @@
 use Prim.Native.Nat.{ℕ, ◌+◌, ◌-◌, ◌≤◌, ◌<◌}
 use mathlib.Core.Path.{◌≡◌, refl, sym, ap, ap₂, ◌∙◌}
 use mathlib.Core.Bool.{Bool, true, false, not, cond, ◌&&◌, ◌||◌, and-true}
-use mathlib.Core.Logic.{⊎_elim}
+use mathlib.Core.Logic.{◌⊎◌, inl, inr}
 use native.Mathlib.Omega.{arith}
 use lib.Dec.{ltb, leb, eqb}
 use lib.Bits.{bit_or}
 use Rattle.std.specs.Prelude.{List, length, Option, Some, None, is_some}
-use borrow.Author.Tests.{leb-true, le-leb, lt-leb, ltb-true, ltb-false, not-false}
+use borrow.Author.Tests.{eq-eqb, ne_eqb, leb-true, le-leb, lt-leb, ltb-true, ltb-false, not-false}
 use Rattle.lists.specs.Numbers.{every, all, lowest}
-use Rattle.lists.proofs.Tests.{lt_or_le, same_test}
+use Rattle.lists.proofs.Tests.{same_test}
 use Rattle.lists.proofs.Every.{every_at, every_of}
 use Rattle.lists.proofs.Lowest.{lowest-below, lowest_none}
 use Rattle.mask.specs.Mask.{has}
@@ -77,22 +77,22 @@ module _ (M next live label : ℕ) (X : Template) (branch : ℕ) (children : Lis
 
   module _ (h : not b ≡ false) (count : ℕ) (ec : count ≡ length children) where
     from_23 : refusal_of M next live label X branch children
-        ≡ refuse_if (eqb (count) 2 && not (leb (live + 1) 128)) 23 (refuse_if (not (leb (next + count) 4294967295)) 24 (refuse_if (not (all_fitting M label X children)) 25 Done))
+        ≡ refuse_if (eqb count 2 && not (leb (live + 1) 128)) 23 (refuse_if (not (leb (next + count) 4294967295)) 24 (refuse_if (not (all_fitting M label X children)) 25 Done))
     unfolding refusal_of
     from_23 = rw ec (refuse_no (not (branch_fits X.form branch)) 22 _ (ap not (sym eb) ∙ h))
 
-    room : (eqb (count) 2 && not (leb (live + 1) 128)) ≡ (eqb (count) 2 && leb 128 live)
-    room =
-        ap (λ (t : Bool). eqb (count) 2 && t)
-        (⊎_elim (λ l. ap not (le-leb (live + 1) 128 (omega arith)) ∙ sym (lt-leb 128 live l)) (λ g. ap not (lt-leb (live + 1) 128 (omega arith)) ∙ sym (le-leb 128 live g)) (lt_or_le live 128))
+    pub refused_23 : count ≡ 2 → 128 ≤ live → Refused 23 ≡ refusal_of M next live label X branch children
+    refused_23 two full =
+        sym (from_23 ∙ refuse_yes _ 23 _ (ap₂ (λ (a b : Bool). a && not b) (eq-eqb count 2 two) (lt-leb (live + 1) 128 (omega arith))))
 
-    pub refused_23 : (eqb (count) 2 && leb 128 live) ≡ true → Refused 23 ≡ refusal_of M next live label X branch children
-    refused_23 q = sym (from_23 ∙ refuse_yes _ 23 _ (room ∙ q))
-
-    module _ (q : (eqb (count) 2 && leb 128 live) ≡ false) (few : count ≤ 4294967295) where
+    module _ (room : ((count ≡ 2) × (live < 128)) ⊎ (count ≡ 2 → ⊥)) (few : count ≤ 4294967295) where
       from_24 : refusal_of M next live label X branch children
           ≡ refuse_if (not (leb (next + count) 4294967295)) 24 (refuse_if (not (all_fitting M label X children)) 25 Done)
-      from_24 = from_23 ∙ refuse_no _ 23 _ (room ∙ q)
+      from_24 = from_23 ∙ refuse_no _ 23 _ (spare room)
+        where
+          spare : ((count ≡ 2) × (live < 128)) ⊎ (count ≡ 2 → ⊥) → (eqb count 2 && not (leb (live + 1) 128)) ≡ false
+          spare (inl p) = let l = p.1 in ap₂ (λ (a b : Bool). a && not b) (eq-eqb count 2 p.0) (le-leb (live + 1) 128 (omega arith))
+          spare (inr n) = ap (λ (a : Bool). a && not (leb (live + 1) 128)) (ne_eqb count 2 n)
 
       pub refused_24 : 4294967295 - count < next → Refused 24 ≡ refusal_of M next live label X branch children
       refused_24 l = sym (from_24 ∙ refuse_yes _ 24 _ (ap not (lt-leb (next + count) 4294967295 (omega arith))))

@@ -59,7 +59,7 @@ fn are_fitting(m: u32, label: u32, x: Template, children: UpToTwo<Child>) -> boo
         UpToTwo::None => true,
         UpToTwo::One(y) => is_fitting(m, label, x, y.template),
         UpToTwo::Two(y, z) => {
-            is_fitting(m, label, x, y.template) & is_fitting(m, label, x, z.template)
+            is_fitting(m, label, x, y.template) && is_fitting(m, label, x, z.template)
         }
     }
 }
@@ -80,7 +80,7 @@ pub fn admit(
         return Err(Refusal::NoBranch);
     }
     let count = children.count();
-    if (count == 2) & (128 <= live) {
+    if count == 2 && 128 <= live {
         return Err(Refusal::NoRoom);
     }
     if u32::MAX - count < next {
