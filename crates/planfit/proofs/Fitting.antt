@@ -13,7 +13,7 @@ use lib.Bits.{bit_or, and_le_r, or_comm, or_lt, or_add_and}
 use borrow.Author.Tests.{le-ltb, lt-ltb, ltb-true, le-leb, lt-leb, leb-true}
 use Rattle.lists.specs.Numbers.{every, tabulate, all}
 use Rattle.lists.proofs.Tests.{lt_or_le, and_left, and_right, and_of, fails, passes_fails, same_test}
-use Rattle.lists.proofs.Every.{every_ext, every_and, every_done}
+use Rattle.lists.proofs.Every.{every_ext, every_and, every_told, every_done}
 use Rattle.lists.proofs.Tabulate.{length-tabulate, get_or-tabulate}
 use Rattle.plan.specs.declared.Template.{Template}
 use Rattle.plan.specs.Plan.{at, successors, masks, template_fits}
@@ -49,7 +49,7 @@ module _ (n m : ℕ) where
       go false true c = refl
       go false false c = refl
 
-  pub counted : (ltb n 1 || ltb 64 n || ltb 32 m) ≡ false → Counted n m
+  counted : (ltb n 1 || ltb 64 n || ltb 32 m) ≡ false → Counted n m
   counted e =
       let q : (ltb 0 n && (leb n 64 && leb m 32)) ≡ true = counts_asked ∙ ap not e in
       record {
@@ -71,22 +71,26 @@ module _ (row : List ℕ) where
   abbrev fits : ℕ → ℕ → Bool
   fits n m = counts n m && every n (fits_at n m)
 
-  -- Of all templates' words the code passes the first n.
-  module _ (n : ℕ) (all : List (List ℕ)) (e : all ≡ tabulate 64 (part_at row)) where
-    pub passed_count : n ≤ 64 → length (take n all) ≡ n
-    passed_count few = length-take-le n all (omega (arith, ap length e ∙ length-tabulate 64 (part_at row)))
+  -- Of all templates' words the code passes the first n, and has gathered what it asks of those below X.
+  module _ (n m : ℕ) (all : List (List ℕ)) (e : all ≡ tabulate 64 (part_at row)) (c : (ltb n 1 || ltb 64 n || ltb 32 m) ≡ false) where
+    passed : length (take n all) ≡ n
+    passed =
+        let few = (counted n m c).few in
+        length-take-le n all (omega (arith, ap length e ∙ length-tabulate 64 (part_at row)))
 
-    -- It asks each of them.
-    pub passed : (m X : ℕ) (d : List ℕ) (r : Bool) → n ≤ 64 → X < length (take n all)
-        → r ≡ (is_template (word (get_or (take n all) X d)) && template_fits n m (template_of (word (get_or (take n all) X d)))) → r ≡ fits_at n m X
-    passed m X d r few h q =
-        q ∙ ap₂ (λ (b : Bool) (t : Template). b && template_fits n m t) (part-tested row X _ part) (part-template row X _ part)
+    pub row_more : (X : ℕ) (d : List ℕ) (b r : Bool) → X < length (take n all) → b ≡ every X (fits_at n m)
+        → r ≡ (is_template (word (get_or (take n all) X d)) && template_fits n m (template_of (word (get_or (take n all) X d))))
+        → (b && r) ≡ every (X + 1) (fits_at n m)
+    row_more X d b r h s q =
+        every_told X (fits_at n m) b r s
+        (q ∙ ap₂ (λ (b : Bool) (t : Template). b && template_fits n m t) (part-tested row X _ part) (part-template row X _ part))
       where
         within : X < n
-        within = omega (arith, passed_count few)
+        within = omega (arith, passed)
 
         part : get_or (take n all) X d ≡ part_at row X
         part =
+            let few = (counted n m c).few in
             get_or-take n all X d within ∙ ap (λ (all : List (List ℕ)). get_or all X d) e
             ∙ get_or-tabulate 64 (part_at row) X d (omega (arith, within))
 
@@ -136,7 +140,7 @@ module _ (row : List ℕ) where
         → (i : ℕ) (r : Bool) → i ≤ length (take n all) → length (take n all) ≤ i → r ≡ every i (fits_at n m) → r ≡ plan_fits (plan_for row)
     row_gathered all p c i r a b e =
         let k = counted n m c in
-        let l = passed_count n all p k.few in
+        let l = passed n m all p c in
         every_done n (fits_at n m) i r (omega (arith, l)) (omega (arith, l)) e
         ∙ sym (by_counts ∙ rw (lt-ltb 0 n k.some, le-leb n 64 k.few, le-leb m 32 k.narrow))
 

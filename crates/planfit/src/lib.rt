@@ -32,6 +32,7 @@ fn template_fits(words: &[u32; WIDTH], n: u32, m: u32) -> bool
 
 // Document 01, 20: "a count [..] passed", and the plan's part of the rest. A row that means no plan has none that fits.
 // The loop does not leave early: every call runs it, and nearly every row fits.
+#[tactic(auto, using(lists::proofs::Every::every_start, crate::proofs::Fitting::row_uncounted, crate::proofs::Fitting::row_more, crate::proofs::Fitting::row_gathered))]
 pub fn is_fitting(row: &[u32; WORDS]) -> bool
     ensures { result ≡ plan_fits (plan_for row.now) }
 {

@@ -33,16 +33,15 @@ parts_cut row e after c all q = q ∙ ap₂ (first_chunks width) count whole ∙
     count : length after / width ≡ 64
     count = let l : length after ≡ words - header = ap length whole ∙ length-drop header row ∙ ap (λ (n : ℕ). n - header) e in omega arith
 
-module _ (row : List ℕ) (X : ℕ) where
-  module _ (ws : List ℕ) (e : ws ≡ part_at row X) where
-    part-word : (k : ℕ) → k < width → word ws k ≡ word_at row X k
-    unfolding part_at word_at
-    part-word k h =
-        ap (λ (l : List ℕ). word l k) e ∙ get_or-take width (drop (begins X) row) k 0 h ∙ get_or-drop (begins X) row k 0
+module _ (row : List ℕ) (X : ℕ) (ws : List ℕ) (e : ws ≡ part_at row X) where
+  part-word : (k : ℕ) → k < width → word ws k ≡ word_at row X k
+  unfolding part_at word_at
+  part-word k h =
+      ap (λ (l : List ℕ). word l k) e ∙ get_or-take width (drop (begins X) row) k 0 h ∙ get_or-drop (begins X) row k 0
 
-    pub part-tested : is_template (word ws) ≡ is_template (word_at row X)
-    part-tested = is_template_ext (word ws) (word_at row X) part-word
+  pub part-tested : is_template (word ws) ≡ is_template (word_at row X)
+  part-tested = is_template_ext (word ws) (word_at row X) part-word
 
-    pub part-template : template_of (word ws) ≡ template_in row X
-    unfolding template_in
-    part-template = template_ext (word ws) (word_at row X) part-word
+  pub part-template : template_of (word ws) ≡ template_in row X
+  unfolding template_in
+  part-template = template_ext (word ws) (word_at row X) part-word
