@@ -3,7 +3,7 @@
 use Prim.Native.Nat.{ℕ, zero, suc, ◌+◌, ◌^◌, ◌<◌, ◌≤◌}
 use mathlib.Core.Path.{◌≡◌, refl, sym, ap, ap₂, ◌∙◌, fun_ext}
 use mathlib.Core.Logic.{⊎_elim}
-use mathlib.Core.List.{List}
+use mathlib.Core.List.{List, [], ◌∷◌}
 use mathlib.Core.Bool.{Bool, true, false, not, ◌&&◌, ◌||◌, or-false, or_assoc}
 use native.Mathlib.Nat.{lt_of_le_of_lt, zero-add}
 use native.Mathlib.Numerals.{add-one}
@@ -13,7 +13,7 @@ use lib.Bits.{bit_and, and_le_l}
 use lib.ListN.{get_or}
 use denote.Bor.{Bor}
 use borrow.Author.Tests.{eqb-true, eq-eqb, not-true, not-false}
-use Rattle.std.specs.List.{fold, range_with_len}
+use Rattle.std.specs.List.{fold, list_any, range_with_len}
 use Rattle.lists.specs.Numbers.{any}
 use Rattle.lists.specs.Joins.{both, either}
 use Rattle.lists.proofs.Tests.{and_of, same_test, passes_fails, fails, bool?}
@@ -134,13 +134,10 @@ module _ (first second : List ℕ) (barred : ℕ) (to : Targets) (forks : Forks)
 
 -- ---- a loop that tries every number, and the successors of a template
 
-any_folded : (n a : ℕ) (test : ℕ → Bool) (found : Bool) → fold (λ b x. b || test x) found (range_with_len a n) ≡ (found || any n (λ i. test (a + i)))
+any_listed : (n a : ℕ) (test : ℕ → Bool) → list_any test (range_with_len a n) ≡ any n (λ i. test (a + i))
 unfolding any
-any_folded zero a test found = sym (or-false found)
-any_folded (suc n) a test found =
-    any_folded n (a + 1) test (found || test a)
-    ∙ or_assoc found (test a) (any n (λ i. test (a + 1 + i)))
-    ∙ ap₂ (λ (t : Bool) (f : ℕ → Bool). found || (t || any n f)) (ap test here) (fun_ext (λ i. ap test (next i)))
+any_listed zero a test = refl
+any_listed (suc n) a test = ap₂ ◌||◌ (ap test here) (any_listed n (a + 1) test ∙ ap (any n) (fun_ext (λ i. ap test (next i))))
   where
     here : a ≡ a + 0
     here = omega arith
@@ -148,8 +145,15 @@ any_folded (suc n) a test found =
     next : (i : ℕ) → a + 1 + i ≡ a + suc i
     next i = omega arith
 
+any_folded : (test : ℕ → Bool) (found : Bool) (xs : List ℕ) → fold (λ b x. b || test x) found xs ≡ (found || list_any test xs)
+any_folded test found [] = sym (or-false found)
+any_folded test found (x ∷ xs) = any_folded test (found || test x) xs ∙ or_assoc found (test x) (list_any test xs)
+
+pub any_from_0 : (n : ℕ) (test : ℕ → Bool) → list_any test (range_with_len 0 n) ≡ any n test
+any_from_0 n test = any_listed n 0 test ∙ ap (any n) (fun_ext (λ i. ap test (zero-add i)))
+
 pub any_gathered : (n : ℕ) (test : ℕ → Bool) → fold (λ b x. b || test x) false (range_with_len 0 n) ≡ any n test
-any_gathered n test = any_folded n 0 test false ∙ ap (any n) (fun_ext (λ i. ap test (zero-add i)))
+any_gathered n test = any_folded test false (range_with_len 0 n) ∙ any_from_0 n test
 
 module _ (first second : List ℕ) (test : ℕ → Bool) (x : ℕ) where
   pub none_leads : 64 ≤ x → false ≡ any_in test (successors (at (laid_out first second) x).form)
