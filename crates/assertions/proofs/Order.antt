@@ -33,13 +33,6 @@ use Rattle.prot.specs.Lent.{parted, prot_by}
 
 -- ---- one assertion
 
--- Rule 17's verdict, one law for each way out.
-pub served : (v w : Verdict) (b : Bool) → b ≡ true → v ≡ cond b v w
-served v w b f = sym (ap (λ (c : Bool). cond c v w) f)
-
-pub unserved : (v w : Verdict) (b : Bool) → b ≡ false → w ≡ cond b v w
-unserved v w b f = sym (ap (λ (c : Bool). cond c v w) f)
-
 -- The mask says what the test says.
 wearables_are : (plan : Plan) (X t : ℕ) → has t (wearables (at plan X)) ≡ wearable plan X t
 unfolding wearables wearable

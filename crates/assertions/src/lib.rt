@@ -18,14 +18,15 @@ fn check_17(served: bool, place: u8, sink: u8) -> Result<(), Breach>
     ensures { answered result ≡ cond served Accepted (broken 17 place sink 255) }
 {
     if served {
-        return Ok(());
+        Ok(())
+    } else {
+        Err(Breach {
+            rule: 17,
+            first: place,
+            second: sink,
+            identifier: 255,
+        })
     }
-    Err(Breach {
-        rule: 17,
-        first: place,
-        second: sink,
-        identifier: 255,
-    })
 }
 
 // The assertion at a place, by its kind.
@@ -53,7 +54,8 @@ fn check_assertion(layout: &Layout, plan: &Plan, place: u8, a: Assertion) -> Res
     }
 }
 
-// All assertions in order, over one layout. Past the 32 places all are blank, and alike: the first of them is enough.
+// All assertions in order, over one layout. Past the 32 places all are blank, and alike: the first of them is enough. A loop:
+// `try_for_each` would say the same in a closure.
 pub fn check_assertions(plan: &Plan, policy: &Policy) -> Result<(), Breach>
     ensures { answered result ≡ check_assertions plan.now policy.now }
 {

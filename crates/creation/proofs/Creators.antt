@@ -7,6 +7,7 @@ use native.Mathlib.Nat.{le_trans, lt_trans}
 use native.Mathlib.Omega.{arith}
 use lib.Dec.{leb, ltb}
 use Rattle.std.specs.Prelude.{Option, Some, None, IsSome}
+use Rattle.std.specs.Option.{MatchOption}
 use mir.Syntax.{w8}
 use mir.Val.{Fits}
 use lib.Bits.{bit_and, bit_or}
@@ -14,7 +15,7 @@ use lib.ListN.{length, get_or}
 use borrow.Author.Tests.{lt-ltb, le-ltb, ltb-true, le-leb, lt-leb}
 use Rattle.lists.specs.Numbers.{any, lowest}
 use Rattle.lists.proofs.Tests.{same_test, lt_or_le, passes_fails, and_left}
-use Rattle.lists.proofs.Every.{any_none, any_more, any_acc, any_ext, any_at, any_of, any_from, any_to, any_capped}
+use Rattle.lists.proofs.Every.{any_none, any_acc, any_ext, any_of, any_from, any_to, any_capped}
 use Rattle.lists.proofs.Lowest.{lowest-holds, lowest-below, lowest_ext, lowest_any, lowest_none, lowest_shorter, lowest_found, lowest_hit}
 use Rattle.mask.specs.Mask.{has}
 use Rattle.mask.specs.Sets.{Marks}
@@ -106,29 +107,34 @@ module _ (plan : Plan) where
   -- ---- the two lowest creators
 
   -- Creators of t from a template on.
-  abbrev pub from_on : ℕ → ℕ → ℕ → Bool
+  abbrev from_on : ℕ → ℕ → ℕ → Bool
   from_on from t X = leb from X && creates plan t X
 
-  pub from_start : (t from : ℕ) → any from (from_on from t) ≡ false
-  from_start t from = any_of from (from_on from t) (λ i h. ap (λ (x : Bool). x && creates plan t i) (lt-leb from i h))
+  -- The first of them that is found in the range of places from there on is the lowest.
+  module _ (t from : ℕ) where
+    abbrev Yes : ℕ → Type 0
+    Yes X = has t (get_or plan.templates X blank).creates ≡ true
 
-  -- None of them stands below x.
-  module _ (t from x : ℕ) (p : any x (from_on from t) ≡ false) where
-    module _ (s : from ≤ x) (b : Bool) (k : b ≡ has t (get_or plan.templates x blank).creates) where
-      tested : from_on from t x ≡ b
-      unfolding creates at
-      tested = ap (λ (y : Bool). y && has t (at plan x).creates) (le-leb from x s) ∙ sym k
+    abbrev No : ℕ → Type 0
+    No X = has t (get_or plan.templates X blank).creates ≡ false
 
-      pub from_miss : b ≡ false → any (x + 1) (from_on from t) ≡ false
-      from_miss f = any_more x (from_on from t) p (tested ∙ f)
+    outside : (n X : ℕ) → X < n → ((k : ℕ) → from ≤ k → k < n → No k) → from_on from t X ≡ false
+    unfolding creates at
+    outside n X l none = ⊎_elim
+        (λ h. ap (λ (x : Bool). x && creates plan t X) (lt-leb from X h))
+        (λ h. ap (λ (x : Bool). leb from X && x) (none X h l) ∙ and-false (leb from X)) (lt_or_le X from)
 
-      pub from_hit : b ≡ true → x < placed plan → ◌≡◌ {A = Option ℕ} (Some x) (creator_from plan from t)
-      unfolding creator_from
-      from_hit f l = found_at (placed plan) (from_on from t) x l (lowest_hit (placed plan) (from_on from t) x l p (tested ∙ f))
-
-    pub from_end : placed plan ≤ x → ◌≡◌ {A = Option ℕ} None (creator_from plan from t)
-    unfolding creator_from
-    from_end h = none_at (placed plan) (from_on from t) (lowest_none (placed plan) (from_on from t) (λ i l. any_at x (from_on from t) p i (le_trans l h)))
+    pub from_first : (n : ℕ) → n ≡ placed plan → (r : Option ℕ)
+        → MatchOption r ((k : ℕ) → from ≤ k → k < n → No k) (λ i. (from ≤ i) × (i < n) × Yes i × ((k : ℕ) → from ≤ k → k < i → No k))
+        → r ≡ creator_from plan from t
+    unfolding creator_from creates at
+    from_first n e None none =
+        none_at (placed plan) (from_on from t) (lowest_none (placed plan) (from_on from t) (λ i l. outside n i (omega (arith, e)) none))
+    from_first n e (Some i) hit =
+        let l = hit.1 in
+        found_at (placed plan) (from_on from t) i (omega (arith, e))
+        (lowest_hit (placed plan) (from_on from t) i (omega (arith, e)) (any_of i (from_on from t) (λ k h. outside i k h hit.3))
+        (ap (λ (x : Bool). x && creates plan t i) (le-leb from i hit.0) ∙ hit.2))
 
   -- ---- the verdict
 

@@ -13,7 +13,7 @@ use plan::Plan;
 use rules::Breach;
 
 // The identifiers that two templates create: each is in what an earlier template created. That the row has its length is known
-// once a template was read.
+// once a template was read; so it is no fold, whose closure tells nothing outside of what it read: there the proof did not close.
 fn created_twice(plan: &Plan) -> u32
     ensures marks { Marks result (λ t. ltb (next_creator plan.now t) plan.now.count) }
     ensures row { 0 < plan.now.count → length plan.now.templates ≡ 64 }
@@ -32,12 +32,7 @@ fn created_twice(plan: &Plan) -> u32
 fn creator_from(plan: &Plan, t: u32, from: u8) -> Option<u8>
     ensures { result ≡ creator_from plan.now from t }
 {
-    for x in from..plan::capped(plan.count, 64) {
-        if plan.templates[x as usize].creates.contains(t) {
-            return Some(x);
-        }
-    }
-    None
+    (from..plan::capped(plan.count, 64)).find(|x| plan.templates[*x as usize].creates.contains(t))
 }
 
 // 11: the lowest identifier that is created twice, and its two lowest creators.

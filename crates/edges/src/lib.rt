@@ -54,7 +54,7 @@ fn check_edges_from(plan: &Plan, x: u8, form: Form) -> Result<(), Breach>
     }
 }
 
-// X rising.
+// X rising. A loop: `try_for_each` would say the same in a closure.
 pub fn check_edges(plan: &Plan) -> Result<(), Breach>
     ensures { answered result ≡ check_edges plan.now }
 {

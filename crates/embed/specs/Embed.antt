@@ -1,4 +1,4 @@
--- What start leaves and what replay hands back (include/monitor.h). Judge and locate: crate words; calls on lent memory:
+-- What start leaves and what replay hands back (include/monitor.h). Judge and locate: crate rules; calls on lent memory:
 -- crate memory.
 -- Believed: everything here. Proved against it: crate embed.
 use Rattle.std.specs.Prelude.{ℕ, ◌≡◌, List}

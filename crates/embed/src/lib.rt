@@ -7,7 +7,7 @@ ghost use Rattle.machine.specs.State.{call_of};
 ghost use Rattle.planrow.specs.Row.{plan_of_row};
 ghost use Rattle.rules.specs.Judge.{judge, numbers_of};
 ghost use Rattle.rules.specs.Show.{locate};
-ghost use Rattle.words.specs.Words.{part_words};
+ghost use Rattle.rules.specs.Words.{part_words};
 ghost use Rattle.memory.specs.Memory.{held, Answers, Runs};
 ghost use Rattle.embed.specs.Embed.{Starts, ReplayedAll};
 
@@ -18,7 +18,7 @@ pub fn monitor_judge(plan: &[u8], policy: &[u8], words: &mut [u32; 5])
     ensures { words.new ≡ numbers_of (judge plan.now policy.now) }
 {
     let verdict = verdict::judge(plan, policy);
-    *words = words::verdict_words(verdict);
+    *words = verdict.into();
 }
 
 // Where the part lies that the verdict shows.
@@ -26,7 +26,7 @@ pub fn monitor_locate(plan: &[u8], policy: &[u8], words: &mut [usize; 3])
     ensures { words.new ≡ part_words (locate plan.now policy.now) }
 {
     let part = showing::locate(plan, policy);
-    *words = words::part_words(part);
+    *words = part.into();
 }
 
 // Judges both texts; writes the verdict, and the started state, blank where it is not accepted.
@@ -46,7 +46,7 @@ pub fn monitor_start(
 {
     let begun = starting::start(plan, policy);
     let state = begun.state;
-    *words = words::verdict_words(begun.verdict);
+    *words = begun.verdict.into();
     *row = encoding::row_of(state.plan);
     *place = [state.next, state.live];
     // By way of variables: the borrow checker takes no array straight from a field.
@@ -108,6 +108,6 @@ pub fn monitor_replay(
     ensures { ReplayedAll plan.now policy.now calls.now answers.old words.new result answers.new }
 {
     let replayed = replaying::replay(plan, policy, calls, answers);
-    *words = words::verdict_words(replayed.verdict);
+    *words = replayed.verdict.into();
     replayed.count
 }

@@ -7,7 +7,7 @@ ghost use Rattle.machine.specs.State.{call_of};
 ghost use Rattle.planrow.specs.Row.{plan_of_row};
 ghost use Rattle.rules.specs.Judge.{judge, numbers_of};
 ghost use Rattle.rules.specs.Show.{locate};
-ghost use Rattle.words.specs.Words.{part_words};
+ghost use Rattle.rules.specs.Words.{part_words};
 ghost use Rattle.memory.specs.Memory.{held, Answers, Runs};
 ghost use Rattle.embed.specs.Embed.{Starts, ReplayedAll};
 

@@ -1,7 +1,6 @@
 -- The layout as the code makes it: the turns of the loop over the templates, and the search that finds the forks.
 use Prim.Native.Nat.{ℕ, ◌+◌, ◌≤◌, ◌<◌}
 use mathlib.Core.Path.{◌≡◌, refl, ap, ap₂, subst, ◌∙◌}
-use mathlib.Core.Bool.{Bool}
 use mathlib.Core.List.{List}
 use native.Mathlib.Omega.{arith}
 use lib.Bits.{bit_and}
@@ -12,11 +11,10 @@ use Rattle.lists.proofs.Tabulate.{filled_more, filled_all}
 use Rattle.plan.specs.declared.Plan.{Plan}
 use Rattle.plan.specs.Plan.{blank, at}
 use Rattle.route.specs.declared.Layout.{Layout}
-use Rattle.route.specs.Search.{in_mask, including, collect, reach}
+use Rattle.route.specs.Search.{in_mask, collect, reach}
 use Rattle.route.specs.Lent.{laid_out}
-use Rattle.layout.specs.Layout.{first_of, second_of, is_fork, firsts, seconds, creations, forked, forks, all_forks, layout_of}
+use Rattle.layout.specs.Layout.{first_of, second_of, firsts, seconds, creations, forked, forks, all_forks, layout_of}
 use Rattle.layout.proofs.Layouts.{reach_laid}
-use Rattle.layout.proofs.Collecting.{collect_none, collect_more, collect_end}
 
 -- ---- the loop over the templates
 
@@ -37,42 +35,38 @@ module _ (f : ℕ → ℕ) (xs : List ℕ) where
     filled_end q = filled_all f xs 64 s.full (subst (λ (k : ℕ). (j : ℕ) → j < k → get_or xs j 0 ≡ f j) q s.so_far)
 
 -- What the loop keeps: all is laid out below x.
-pub record Laying (plan : Plan) (first second creates : List ℕ) (found x : ℕ) : Type 0 where
+pub record Laying (plan : Plan) (first second creates : List ℕ) (x : ℕ) : Type 0 where
   pub at_first : Filled (λ X. first_of (at plan X).form) first x
   pub at_second : Filled (λ X. second_of (at plan X).form) second x
   pub at_creates : Filled (λ X. (at plan X).creates) creates x
-  pub at_forks : found ≡ collect x (forked plan)
 
 module _ (plan : Plan) (first second creates : List ℕ) where
-  pub lay_start : length first ≡ 64 → length second ≡ 64 → length creates ≡ 64 → Laying plan first second creates 0 0
+  pub lay_start : length first ≡ 64 → length second ≡ 64 → length creates ≡ 64 → Laying plan first second creates 0
   lay_start e h k = record {
     at_first = filled_none _ first e;
     at_second = filled_none _ second h;
     at_creates = filled_none _ creates k;
-    at_forks = collect_none (forked plan);
   }
 
-  module _ (found x : ℕ) (s : Laying plan first second creates found x) where
+  module _ (x : ℕ) (s : Laying plan first second creates x) where
     pub lay_more : (p : ℕ × ℕ) → p ≡ (first_of (get_or plan.templates x blank).form, second_of (get_or plan.templates x blank).form) → x < 64
-        → (r : ℕ) (b : Bool) → b ≡ is_fork (get_or plan.templates x blank).form → r ≡ including found x b
-        → Laying plan (set first x p.0) (set second x p.1) (set creates x (get_or plan.templates x blank).creates) r (x + 1)
-    unfolding at forked
-    lay_more p e l r b k q = record {
+        → Laying plan (set first x p.0) (set second x p.1) (set creates x (get_or plan.templates x blank).creates) (x + 1)
+    unfolding at
+    lay_more p e l = record {
       at_first = filled_next _ first x s.at_first p.0 l (ap (λ (p : ℕ × ℕ). p.0) e);
       at_second = filled_next _ second x s.at_second p.1 l (ap (λ (p : ℕ × ℕ). p.1) e);
       at_creates = filled_next _ creates x s.at_creates _ l refl;
-      at_forks = collect_more (forked plan) x found r b s.at_forks k q;
     }
 
-    pub lay_end : x ≤ 64 → 64 ≤ x → ◌≡◌ {A = Layout} (record { first = first; second = second; creates = creates; forks = found }) (all_forks plan)
+    pub lay_end : x ≤ 64 → 64 ≤ x → (found : ℕ) → found ≡ collect 64 (forked plan) → ◌≡◌ {A = Layout} (record { first = first; second = second; creates = creates; forks = found }) (all_forks plan)
     unfolding all_forks firsts seconds creations
-    lay_end low g i =
+    lay_end low g found e i =
         let q : x ≡ 64 = omega arith in
         record {
           first = filled_end _ first x s.at_first q i;
           second = filled_end _ second x s.at_second q i;
           creates = filled_end _ creates x s.at_creates q i;
-          forks = collect_end (forked plan) x found low g s.at_forks i;
+          forks = e i;
         }
 
 -- ---- the search for the forks

@@ -1,7 +1,7 @@
 // Lays a plan out for searching, once a judgement, to be lent from then on; and finds in what is lent who creates an identifier.
 #![tactic(auto)]
 
-ghost use Rattle.std.specs.Prelude.{◌≡◌};
+ghost use Rattle.std.specs.Prelude.{◌≡◌, ℕ, ◌<◌, Bool};
 ghost use Rattle.route.specs.Search.{collect};
 ghost use Rattle.layout.specs.Layout.{first_of, second_of, is_fork, made_by, all_forks, layout_of};
 
@@ -31,6 +31,18 @@ fn is_fork(form: Form) -> bool
     matches!(form, Form::Both(..))
 }
 
+// The templates that pass a test.
+fn collect<F: Fn(u8) -> bool>(test: F) -> u64
+    requires { (x : ℕ) → x < 64 → F.pre test x }
+    ensures { (p : ℕ → Bool) → ((x : ℕ) (b : Bool) → x < 64 → F.post test x b → b ≡ p x) → result ≡ collect 64 p }
+{
+    let mut found: u64 = 0;
+    for x in 0..64u8 {
+        found = route::include(found, x, test(x));
+    }
+    found
+}
+
 // What stands in each template; as forks, all that are a `both`.
 fn lay_templates(plan: &Plan) -> Layout
     ensures { result ≡ all_forks plan.now }
@@ -38,21 +50,15 @@ fn lay_templates(plan: &Plan) -> Layout
     let mut first = [NOWHERE; 64];
     let mut second = [NOWHERE; 64];
     let mut creates = [0u32; 64];
-    let mut forks: u64 = 0;
-    for x in 0..64u8 {
-        let i = x as usize;
-        let template = plan.templates[i];
-        let (y, z) = successors(template.form);
-        first[i] = y;
-        second[i] = z;
+    for (i, template) in plan.templates.iter().enumerate() {
+        (first[i], second[i]) = successors(template.form);
         creates[i] = template.creates;
-        forks = route::include(forks, x, is_fork(template.form));
     }
     Layout {
         first,
         second,
         creates,
-        forks,
+        forks: collect(|x| is_fork(plan.templates[x as usize].form)),
     }
 }
 
@@ -72,10 +78,5 @@ pub fn lay_out(plan: &Plan) -> Layout
 pub fn creators(layout: &Layout, t: u32) -> u64
     ensures { result ≡ collect 64 (made_by layout.now.creates t) }
 {
-    let mut found: u64 = 0;
-    for x in 0..64u8 {
-        let made = layout.creates[x as usize].contains(t);
-        found = route::include(found, x, made);
-    }
-    found
+    collect(|x| layout.creates[x as usize].contains(t))
 }

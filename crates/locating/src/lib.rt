@@ -17,7 +17,7 @@ fn line_start(text: &[u8], skipped: usize) -> usize
 {
     let mut start = 0;
     for _ in 0..skipped {
-        let end = start + scan::find(&text[start..], 10);
+        let end = start + scan::find(&text[start..], b'\n');
         if text.len() <= end {
             return text.len();
         }
@@ -31,7 +31,7 @@ fn line_end(text: &[u8], start: usize) -> usize
     requires { start ≤ length text.now }
     ensures { result ≡ line_end start text.now }
 {
-    start + scan::find(&text[start..], 10)
+    start + scan::find(&text[start..], b'\n')
 }
 
 // Where the faulty line begins; line 0 is at the text's end.
@@ -40,9 +40,10 @@ fn faulty_line(text: &[u8], line: u32) -> usize
     ensures room { result ≤ length text.now }
 {
     if line == 0 {
-        return text.len();
+        text.len()
+    } else {
+        line_start(text, (line - 1) as usize)
     }
-    line_start(text, (line - 1) as usize)
 }
 
 // The line that begins there.
@@ -58,6 +59,7 @@ fn line_part(text: Text, bytes: &[u8], start: usize) -> Part
 }
 
 // The name of template x: its line without the key.
+#[tactic(auto, unfolding(rules::specs::Show::name_of))]
 fn name_part(plan: &[u8], x: u8) -> Part
     ensures { result ≡ name_of x plan.now }
 {
@@ -70,6 +72,7 @@ fn name_part(plan: &[u8], x: u8) -> Part
 }
 
 // The `kind=` line of the assertion at place i.
+#[tactic(auto, unfolding(rules::specs::Show::kind_line))]
 fn kind_part(policy: &[u8], i: u8) -> Part
     ensures { result ≡ kind_line i policy.now }
 {
@@ -78,6 +81,7 @@ fn kind_part(policy: &[u8], i: u8) -> Part
 }
 
 // The faulty line.
+#[tactic(auto, unfolding(rules::specs::Show::located))]
 fn fault_part(plan: &[u8], policy: &[u8], fault: Fault) -> Part
     ensures { result ≡ located (Unread fault) plan.now policy.now }
 {
@@ -88,6 +92,7 @@ fn fault_part(plan: &[u8], policy: &[u8], fault: Fault) -> Part
 }
 
 // Where the part lies that a verdict on the texts shows.
+#[tactic(auto, unfolding(rules::specs::Show::located))]
 pub fn locate_verdict(plan: &[u8], policy: &[u8], verdict: Verdict) -> Part
     ensures { result ≡ located verdict plan.now policy.now }
 {
@@ -98,7 +103,7 @@ pub fn locate_verdict(plan: &[u8], policy: &[u8], verdict: Verdict) -> Part
             end: 0,
         },
         Verdict::Broken(b) => {
-            if (b.rule == 11) | rules::is_edge_rule(b.rule) {
+            if b.rule == 11 || rules::is_edge_rule(b.rule) {
                 name_part(plan, b.first)
             } else {
                 kind_part(policy, b.first)

@@ -11,6 +11,7 @@ ghost use Rattle.offenders.specs.Lowest.{lowest_of};
 use plan::Template;
 
 // 12: lab y within lab plus pos y.
+#[tactic(auto, using(crate::proofs::Masks::neither))]
 pub fn offenders_12(lab: u32, x: Template, y: Template) -> u32
     ensures { Marks result (offends12 lab x y) }
 {
@@ -18,6 +19,7 @@ pub fn offenders_12(lab: u32, x: Template, y: Template) -> u32
 }
 
 // 13: lab minus neg y within lab y.
+#[tactic(auto, using(crate::proofs::Masks::less_less))]
 pub fn offenders_13(lab: u32, x: Template, y: Template) -> u32
     ensures { Marks result (offends13 lab x y) }
 {
@@ -25,6 +27,7 @@ pub fn offenders_13(lab: u32, x: Template, y: Template) -> u32
 }
 
 // 14: pos y within pos x plus creates y.
+#[tactic(auto, using(crate::proofs::Masks::neither))]
 pub fn offenders_14(lab: u32, x: Template, y: Template) -> u32
     ensures { Marks result (offends14 lab x y) }
 {
@@ -32,6 +35,7 @@ pub fn offenders_14(lab: u32, x: Template, y: Template) -> u32
 }
 
 // 15: neg y within neg x plus creates y.
+#[tactic(auto, using(crate::proofs::Masks::neither))]
 pub fn offenders_15(lab: u32, x: Template, y: Template) -> u32
     ensures { Marks result (offends15 lab x y) }
 {
@@ -39,6 +43,7 @@ pub fn offenders_15(lab: u32, x: Template, y: Template) -> u32
 }
 
 // 16: creates y and lab share nothing.
+#[tactic(auto, using(crate::proofs::Masks::in_both))]
 pub fn offenders_16(lab: u32, x: Template, y: Template) -> u32
     ensures { Marks result (offends16 lab x y) }
 {
@@ -51,8 +56,5 @@ pub fn lowest_below(limit: u32, m: u32) -> Option<u32>
     ensures item { IfSome result (λ i. i < 32) }
 {
     let i = mask::lowest_item(m);
-    if i < limit.min(32) {
-        return Some(i);
-    }
-    None
+    if i < limit.min(32) { Some(i) } else { None }
 }

@@ -54,7 +54,7 @@ pub struct Assertion {
     pub declass: u64,
 }
 
-// Document 01's K and assertions; the places at K and past it are blank in every policy that was read.
+// Document 01's K and assertions; the places at K and past it are blank in every policy that was read. A row and its count, as in Plan.
 #[derive(Clone, Copy)]
 pub struct Policy {
     pub count: usize,
@@ -106,6 +106,7 @@ impl Default for Assertion {
     }
 }
 
+// Both look-ups, of a plan and of a policy: two types, one line each.
 impl Plan {
     // The template of that number, blank where the plan has no place for it.
     #[tactic(auto, unfolding(crate::specs::Plan::at))]

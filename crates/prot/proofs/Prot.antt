@@ -1,7 +1,7 @@
 -- Rules 18 and 19 by masks: the identifiers that are parted, as a loop finds them, and the lowest of both rules'
 -- offenders, at which the walk over the identifiers stops.
-use Prim.Native.Nat.{ℕ, ◌+◌, ◌^◌, ◌≤◌, ◌<◌, min}
-use mathlib.Core.Path.{◌≡◌, refl, sym, ap, ap₂, subst, ◌∙◌}
+use Prim.Native.Nat.{ℕ, zero, suc, ◌+◌, ◌^◌, ◌≤◌, ◌<◌, min}
+use mathlib.Core.Path.{◌≡◌, refl, sym, ap, subst, ◌∙◌}
 use mathlib.Core.Logic.{◌⊎◌, ⊎_elim, inl, inr}
 use mathlib.Core.Bool.{Bool, true, false, not, cond, ◌&&◌, true≢false, false≢true}
 use native.Mathlib.Nat.{lt_trans, le_trans}
@@ -9,6 +9,7 @@ use native.Mathlib.Omega.{arith}
 use lib.Dec.{ltb}
 use lib.Bits.{bit_and, bit_or}
 use borrow.Author.Tests.{lt-ltb, le-ltb, ltb-true}
+use Rattle.std.specs.List.{fold, range_with_len}
 use Rattle.lists.specs.Numbers.{lowest}
 use Rattle.lists.proofs.Tests.{bool?, lt_or_le, passes_fails, same_test, and_left, and_right, and_of, or_none, or_cases}
 use Rattle.lists.proofs.Lowest.{lowest_le, lowest-holds, lowest-below}
@@ -17,48 +18,21 @@ use Rattle.mask.specs.Sets.{plus_below}
 use Rattle.mask.proofs.Items.{has_or, has_and, has-without, has_none, plus-has, plus-within, plus_cases, plus-below}
 use Rattle.mask.proofs.Width.{has-below, has_past}
 use Rattle.plan.specs.declared.Assertion.{Assertion}
-use Rattle.route.specs.Search.{collect, splits_over}
-use Rattle.route.specs.declared.Layout.{Layout}
-use Rattle.route.specs.Lent.{laid}
-use Rattle.layout.specs.Layout.{made_by}
 use Rattle.rules.specs.declared.Verdict.TheVariants.{Accepted}
 use Rattle.rules.specs.Judge.{broken, first_below}
 use Rattle.rules.specs.Broken.{tested}
 use Rattle.rules.proofs.Walk.{below_all, below_broken}
 use Rattle.prot.specs.declared.Labels.{Labels}
-use Rattle.prot.specs.Lent.{parted, prot_by, Picked}
+use Rattle.prot.specs.Lent.{prot_by, Picked}
 
--- ---- one identifier that is asked
-
-module _ (l : Layout) (asked : ℕ) (a : Assertion) (found t : ℕ) (k : Bool) (e : k ≡ has t asked) where
-  abbrev taken : Bool → Bool → ℕ
-  taken x y = cond (x && y) (plus_below 32 found t) found
-
-  pub unasked : k ≡ false → found ≡ cond (has t asked && parted l a t) (plus_below 32 found t) found
-  unasked f = sym (ap (λ (b : Bool). taken b (parted l a t)) (sym e ∙ f))
-
-  module _ (g : k ≡ true) (C : ℕ) (made : C ≡ collect 64 (made_by l.creates t)) (s : Bool) (j : s ≡ splits_over (laid l) l.forks C a.source a.sink a.anc) where
-    splits : s ≡ parted l a t
-    unfolding parted
-    splits = j ∙ ap (λ (m : ℕ). splits_over (laid l) l.forks m a.source a.sink a.anc) made
-
-    pub unparted : s ≡ false → found ≡ cond (has t asked && parted l a t) (plus_below 32 found t) found
-    unparted f = sym (ap₂ taken (sym e ∙ g) (sym splits ∙ f))
-
-    pub taken_in : s ≡ true → (r : ℕ) → r ≡ plus_below 32 found t → r ≡ cond (has t asked && parted l a t) (plus_below 32 found t) found
-    taken_in f r h = h ∙ sym (ap₂ taken (sym e ∙ g) (sym splits ∙ f))
-
--- ---- all of them
+-- ---- those that are parted
 
 -- Those below t, as the loop finds them.
 module _ (asked : ℕ) (parts : ℕ → Bool) where
-  pub found_none : Picked asked parts 0 0
+  found_none : Picked asked parts 0 0
   found_none = record { each = λ i. has_none i ∙ sym (ap (λ (b : Bool). b && (has i asked && parts i)) (le-ltb i 0 (omega arith))) }
 
   module _ (found t : ℕ) (s : Picked asked parts t found) where
-    pub found_end : (limit : ℕ) → t ≤ limit → limit ≤ t → Picked asked parts limit found
-    found_end limit l h = let q : t ≡ limit = omega arith in subst (λ (k : ℕ). Picked asked parts k found) q s
-
     abbrev P : ℕ → Bool
     P i = has i asked && parts i
 
@@ -96,16 +70,25 @@ module _ (asked : ℕ) (parts : ℕ → Bool) where
           ap (has i) (one_more (ap P (sym q) ∙ p)) ∙ subst (λ (j : ℕ). has j (plus found t) ≡ true) (sym q) (plus-has found t))
           (lt_or_le i t)
 
-      pub found_more : Picked asked parts (t + 1) r
+      found_more : Picked asked parts (t + 1) r
       found_more = record { each = λ i. same_test (has i r) (ltb i (t + 1) && P i) (found_from i) (found_to i) }
 
+-- What each turn of a fold over a range keeps.
+fold_keeps : (h : ℕ → ℕ → ℕ) (P : ℕ → ℕ → Type 0) → ((x m : ℕ) → P x m → P (x + 1) (h m x)) → (n a m : ℕ) → P a m → P (a + n) (fold h m (range_with_len a n))
+fold_keeps h P next zero a m p = let q : a ≡ a + 0 = omega arith in subst (λ (k : ℕ). P k m) q p
+fold_keeps h P next (suc n) a m p =
+    let q : a + 1 + n ≡ a + suc n = omega arith in
+    subst (λ (k : ℕ). P k (fold h (h m a) (range_with_len (a + 1) n))) q (fold_keeps h P next n (a + 1) (h m a) (next a m p))
+
+pub found_all : (asked : ℕ) (parts : ℕ → Bool) → asked < 2 ^ 32 → (limit : ℕ)
+    → Picked asked parts limit (fold (λ found t. cond (has t asked && parts t) (plus_below 32 found t) found) 0 (range_with_len 0 limit))
+found_all asked parts small limit =
+    let q : 0 + limit ≡ limit = omega arith in
+    let turn : ℕ → ℕ → ℕ = λ found t. cond (has t asked && parts t) (plus_below 32 found t) found in
+    subst (λ (k : ℕ). Picked asked parts k (fold turn 0 (range_with_len 0 limit))) q
+    (fold_keeps turn (Picked asked parts) (λ t found s. found_more asked parts found t s small _ refl) limit 0 0 (found_none asked parts))
+
 -- ---- the lowest offender of both rules
-
-pub rule_19 : (sink t : ℕ) (b : Bool) → b ≡ has t sink → b ≡ true → ◌≡◌ {A = ℕ} 19 (cond (has t sink) 19 18)
-rule_19 sink t b e f = sym (ap (λ (x : Bool). cond x 19 18) (sym e ∙ f))
-
-pub rule_18 : (sink t : ℕ) (b : Bool) → b ≡ has t sink → b ≡ false → ◌≡◌ {A = ℕ} 18 (cond (has t sink) 19 18)
-rule_18 sink t b e f = sym (ap (λ (x : Bool). cond x 19 18) (sym e ∙ f))
 
 module _ (place : ℕ) (a : Assertion) (t : ℕ) where
   calm : (l k s : Bool) → (l && not k) ≡ false → ((l && k) && s) ≡ false → tested place a t l k s ≡ Accepted

@@ -22,37 +22,29 @@ pub struct Labels {
 }
 
 // found, with t where it is asked and parted.
+#[tactic(auto, unfolding(crate::specs::Lent::parted))]
 fn include_parted(layout: &Layout, asked: u32, a: Assertion, found: u32, t: u32) -> u32
     ensures { result ≡ cond (has t asked && parted layout.now a t) (plus_below 32 found t) found }
 {
-    if !asked.contains(t) {
-        return found;
+    if asked.contains(t) && relations::splits_tag(layout, layout::creators(layout, t), a) {
+        found.insert(t)
+    } else {
+        found
     }
-    if !relations::splits_tag(layout, layout::creators(layout, t), a) {
-        return found;
-    }
-    found.insert(t)
 }
 
 // The identifiers below the limit, of those asked, that are parted.
 fn find_parted(layout: &Layout, asked: u32, a: Assertion, limit: u32) -> u32
     ensures { Picked asked (parted layout.now a) limit result }
 {
-    let mut found: u32 = 0;
-    for t in 0..limit {
-        found = include_parted(layout, asked, a, found, t);
-    }
-    found
+    (0..limit).fold(0, |found, t| include_parted(layout, asked, a, found, t))
 }
 
 // The rule that identifier t, which offends, breaks: 18 if it is not in lab Sink, else 19.
 fn rule_at(sink: u32, t: u32) -> u8
     ensures { result ≡ cond (has t sink) 19 18 }
 {
-    if sink.contains(t) {
-        return 19;
-    }
-    18
+    if sink.contains(t) { 19 } else { 18 }
 }
 
 // 18 and 19 of a prot: of both rules' offenders together the lowest, which is 18's if it is not in lab Sink. From 18's

@@ -11,7 +11,7 @@ use field::Refusal;
 use plan::{Plan, Template};
 use text::{Lines, Refused};
 
-// The lines of all n templates of a plan with m identifiers, each name compared with those before it.
+// The lines of all n templates of a plan with m identifiers. By index, since each name is compared with those before it.
 fn read_entries(lines: &mut Lines, n: u8, m: u8) -> Result<[Template; 64], Refused>
     requires { n ≤ 64 }
     ensures { Gives (λ row. row) (template_row n m (standing lines.old)) (standing lines.new) result }

@@ -1,11 +1,11 @@
 -- The small steps of the code, each as the code meets it: what its calls gave are variables, and what they ensure are
 -- premises.
-use Prim.Native.Nat.{ℕ, ◌+◌, ◌^◌, ◌<◌, ◌≤◌}
-use mathlib.Core.Path.{◌≡◌, refl, sym, ap, ap₂, ◌∙◌}
+use Prim.Native.Nat.{ℕ, zero, suc, ◌+◌, ◌^◌, ◌<◌, ◌≤◌}
+use mathlib.Core.Path.{◌≡◌, refl, sym, ap, ap₂, ◌∙◌, fun_ext}
 use mathlib.Core.Logic.{⊎_elim}
-use mathlib.Core.List.{List}
-use mathlib.Core.Bool.{Bool, true, false, not, ◌&&◌, ◌||◌, or-false}
-use native.Mathlib.Nat.{lt_of_le_of_lt}
+use mathlib.Core.List.{List, [], ◌∷◌}
+use mathlib.Core.Bool.{Bool, true, false, not, ◌&&◌, ◌||◌, or-false, or_assoc}
+use native.Mathlib.Nat.{lt_of_le_of_lt, zero-add}
 use native.Mathlib.Numerals.{add-one}
 use native.Mathlib.Omega.{arith}
 use lib.Dec.{eqb}
@@ -13,10 +13,11 @@ use lib.Bits.{bit_and, and_le_l}
 use lib.ListN.{get_or}
 use denote.Bor.{Bor}
 use borrow.Author.Tests.{eqb-true, eq-eqb, not-true, not-false}
+use Rattle.std.specs.List.{fold, list_any, range_with_len}
 use Rattle.lists.specs.Numbers.{any}
 use Rattle.lists.specs.Joins.{both, either}
 use Rattle.lists.proofs.Tests.{and_of, same_test, passes_fails, fails, bool?}
-use Rattle.lists.proofs.Every.{any_acc, any_at}
+use Rattle.lists.proofs.Every.{any_at}
 use Rattle.mask.specs.Mask.{has}
 use Rattle.mask.proofs.Items.{has_and, has_none}
 use Rattle.mask.proofs.Width.{empty}
@@ -26,7 +27,7 @@ use Rattle.plan.specs.Plan.{at, successors}
 use Rattle.route.specs.declared.Target.{Target}
 use Rattle.route.specs.declared.Targets.{Targets}
 use Rattle.route.specs.declared.Forks.{Forks}
-use Rattle.route.specs.Search.{in_mask, including, collect, only, meet, reach, is_way, ways, targets, widened, extended, arrives, detours, crosses, branches_cross, on_branches, fork_crosses, leads, any_in}
+use Rattle.route.specs.Search.{in_mask, collect, meet, reach, is_way, ways, targets, widened, extended, crosses, branches_cross, on_branches, fork_crosses, any_in}
 use Rattle.route.specs.declared.Layout.{Layout}
 use Rattle.route.specs.Lent.{laid_out, laid}
 use Rattle.relations.specs.declared.Search.{Search}
@@ -35,10 +36,6 @@ use Rattle.route.proofs.Sets.{meet_from}
 use Rattle.route.proofs.Steps.{not_included}
 
 -- ---- masks of templates
-
-pub only_is : (x r : ℕ) → r ≡ including 0 x true → r ≡ only x
-unfolding only
-only_is x r e = e
 
 pub meet_is : (m n : ℕ) → m < 2 ^ 64 → not (eqb (bit_and m n) 0) ≡ meet m n
 unfolding meet both
@@ -54,11 +51,6 @@ meet_is m n l = same_test (not (eqb (bit_and m n) 0)) (meet m n)
     (ap (has w.0) (eqb-true (bit_and m n) 0 z) ∙ has_none w.0))))
 
 -- ---- the targets
-
-pub widen_is : (to : Target) (x m : ℕ) (wanted : Bool) → m ≡ including to.ways x wanted
-    → ◌≡◌ {A = Target} (record { place = to.place; ways = m }) (widened to x wanted)
-unfolding widened
-widen_is to x m wanted e = ap (λ (w : ℕ). record { place = to.place; ways = w }) e
 
 not_widened : (to : Target) (x : ℕ) (wanted : Bool) → wanted ≡ false → to ≡ widened to x wanted
 unfolding widened
@@ -115,12 +107,6 @@ module _ (b : Bor Layout) (barred via S K : ℕ) where
 
 -- ---- the branches of a fork
 
-pub crosses_is : (to : Targets) (direct passing : Bool) (m n : ℕ) (a b c d : Bool) → a ≡ has to.source.place m → b ≡ has to.sink.place n
-    → c ≡ meet m to.source.ways → d ≡ meet n to.sink.ways
-    → ((direct && (a && b)) || (passing && ((c && b) || (a && d)))) ≡ crosses to direct passing m n
-unfolding crosses arrives detours both either
-crosses_is to direct passing m n a b c d p q h k i = (direct && (p i && q i)) || (passing && ((h i && q i) || (p i && k i)))
-
 branches_cross_is : (plan : Plan) (barred : ℕ) (to : Targets) (direct passing : Bool) (y z m n : ℕ) (a b : Bool)
     → m ≡ reach plan (in_mask barred) y → n ≡ reach plan (in_mask barred) z → a ≡ crosses to direct passing m n → b ≡ crosses to direct passing n m
     → (a || b) ≡ branches_cross plan barred to direct passing y z
@@ -138,36 +124,45 @@ module _ (first second : List ℕ) (barred : ℕ) (to : Targets) (forks : Forks)
 
   pub fork_reached : not v ≡ false → x < 64 → (a b : Bool) (m n : ℕ) (r s : Bool) → a ≡ has x forks.direct → b ≡ has x forks.passing
       → m ≡ reach (laid_out first second) (in_mask barred) (get_or first x 0) → n ≡ reach (laid_out first second) (in_mask barred) (get_or second x 0)
-      → r ≡ crosses to a b m n → s ≡ crosses to a b n m → (r || s) ≡ fork_crosses (laid_out first second) barred to forks x
+      → r ≡ crosses to a b m n → s ≡ crosses to a b n m → (t : Bool) → t ≡ (r || s) → t ≡ fork_crosses (laid_out first second) barred to forks x
   unfolding fork_crosses both
-  fork_reached e l a b m n r s h k p q w y =
-      branches_cross_is (laid_out first second) barred to a b (get_or first x 0) (get_or second x 0) m n r s p q w y
+  fork_reached e l a b m n r s h k p q w y t z =
+      z ∙ branches_cross_is (laid_out first second) barred to a b (get_or first x 0) (get_or second x 0) m n r s p q w y
       ∙ ap₂ (λ (u s : Bool). branches_cross (laid_out first second) barred to u s (get_or first x 0) (get_or second x 0)) h k
       ∙ sym (ap (λ (form : Form). on_branches form (branches_cross (laid_out first second) barred to (has x forks.direct) (has x forks.passing))) (laid_form first second x l))
       ∙ sym (ap (crossing (laid_out first second)) (sym asked ∙ not-false v e))
 
 -- ---- a loop that tries every number, and the successors of a template
 
-pub any_more : (test : ℕ → Bool) (n : ℕ) (found t : Bool) → found ≡ any n test → t ≡ test n → (found || t) ≡ any (n + 1) test
-any_more test n found t e h = ap (λ (b : Bool). found || b) h ∙ any_acc n test found e
+any_listed : (n a : ℕ) (test : ℕ → Bool) → list_any test (range_with_len a n) ≡ any n (λ i. test (a + i))
+unfolding any
+any_listed zero a test = refl
+any_listed (suc n) a test = ap₂ ◌||◌ (ap test here) (any_listed n (a + 1) test ∙ ap (any n) (fun_ext (λ i. ap test (next i))))
+  where
+    here : a ≡ a + 0
+    here = omega arith
 
-pub any_all : (test : ℕ → Bool) (n : ℕ) (found : Bool) → n ≤ 64 → 64 ≤ n → found ≡ any n test → found ≡ any 64 test
-any_all test n found l g e = let q : n ≡ 64 = omega arith in e ∙ ap (λ (k : ℕ). any k test) q
+    next : (i : ℕ) → a + 1 + i ≡ a + suc i
+    next i = omega arith
 
-pub leads_is : (plan : Plan) (barred : ℕ) (to : Target) (direct : Bool) (y m : ℕ) (a b : Bool) → m ≡ reach plan (in_mask barred) y → a ≡ has to.place m → b ≡ meet m to.ways
-    → ((direct && a) || b) ≡ leads plan barred to direct y
-unfolding leads arrives detours both either
-leads_is plan barred to direct y m a b p q h =
-    ap₂ (λ (u v : Bool). (direct && u) || v) q h ∙ ap (λ (k : ℕ). (direct && has to.place k) || meet k to.ways) p
+any_folded : (test : ℕ → Bool) (found : Bool) (xs : List ℕ) → fold (λ b x. b || test x) found xs ≡ (found || list_any test xs)
+any_folded test found [] = sym (or-false found)
+any_folded test found (x ∷ xs) = any_folded test (found || test x) xs ∙ or_assoc found (test x) (list_any test xs)
+
+pub any_from_0 : (n : ℕ) (test : ℕ → Bool) → list_any test (range_with_len 0 n) ≡ any n test
+any_from_0 n test = any_listed n 0 test ∙ ap (any n) (fun_ext (λ i. ap test (zero-add i)))
+
+pub any_gathered : (n : ℕ) (test : ℕ → Bool) → fold (λ b x. b || test x) false (range_with_len 0 n) ≡ any n test
+any_gathered n test = any_folded test false (range_with_len 0 n) ∙ any_from_0 n test
 
 module _ (first second : List ℕ) (test : ℕ → Bool) (x : ℕ) where
   pub none_leads : 64 ≤ x → false ≡ any_in test (successors (at (laid_out first second) x).form)
   unfolding any_in successors
   none_leads h = sym (ap (λ (form : Form). any_in test (successors form)) (laid_past first second x h))
 
-  pub either-leads : x < 64 → (a b : Bool) → a ≡ test (get_or first x 0) → b ≡ test (get_or second x 0)
-      → (a || b) ≡ any_in test (successors (at (laid_out first second) x).form)
+  pub either_leads : x < 64 → (a b r : Bool) → a ≡ test (get_or first x 0) → b ≡ test (get_or second x 0) → r ≡ (a || b)
+      → r ≡ any_in test (successors (at (laid_out first second) x).form)
   unfolding any_in successors either
-  either-leads l a b h k =
-      ap₂ ◌||◌ h (k ∙ sym (or-false (test (get_or second x 0))))
+  either_leads l a b r h k e =
+      e ∙ ap₂ ◌||◌ h (k ∙ sym (or-false (test (get_or second x 0))))
       ∙ sym (ap (λ (form : Form). any_in test (successors form)) (laid_form first second x l))

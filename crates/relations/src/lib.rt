@@ -13,6 +13,7 @@ use plan::Assertion;
 use route::{Forks, Layout, Target, Targets};
 
 // The template x alone.
+#[tactic(auto, unfolding(route::specs::Search::only))]
 fn only(x: u8) -> u64
     ensures { result ≡ only x }
 {
@@ -20,6 +21,7 @@ fn only(x: u8) -> u64
 }
 
 // Whether some template is in both masks.
+#[tactic(auto, using(crate::proofs::Steps::meet_is))]
 fn meet(m: u64, n: u64) -> bool
     ensures { result ≡ meet m n }
 {
@@ -27,6 +29,7 @@ fn meet(m: u64, n: u64) -> bool
 }
 
 // The target with template x as one more way, where it is wanted.
+#[tactic(auto, unfolding(route::specs::Search::widened))]
 fn widen(to: Target, x: u8, wanted: bool) -> Target
     ensures { result ≡ widened to x wanted }
 {
@@ -38,6 +41,7 @@ fn widen(to: Target, x: u8, wanted: bool) -> Target
 
 // Whether one branch, which reaches m, leads to the source and the other, which reaches n, to the sink: by any routes
 // if direct, and by routes of which one passes a way if passing.
+#[tactic(auto, unfolding(route::specs::Search::crosses, route::specs::Search::arrives, route::specs::Search::detours, lists::specs::Joins::both, lists::specs::Joins::either))]
 fn crosses(to: Targets, direct: bool, passing: bool, m: u64, n: u64) -> bool
     ensures { result ≡ crosses to direct passing m n }
 {
@@ -45,7 +49,7 @@ fn crosses(to: Targets, direct: bool, passing: bool, m: u64, n: u64) -> bool
     let at_sink = n.contains(to.sink.place as u32);
     let by_source = meet(m, to.source.ways);
     let by_sink = meet(n, to.sink.ways);
-    (direct & (at_source & at_sink)) | (passing & ((by_source & at_sink) | (at_source & by_sink)))
+    direct && at_source && at_sink || passing && (by_source && at_sink || at_source && by_sink)
 }
 
 // A layout without the templates that are barred, and what is sought in it.
@@ -58,6 +62,7 @@ struct Search<'a> {
 
 impl<'a> Search<'a> {
     // Both targets with template x as one more way, where it is one: one search, if it is one of the templates via.
+    #[tactic(auto, using(crate::proofs::Steps::extend_none, crate::proofs::Steps::extend_some))]
     fn extend(&self, via: u64, x: u8) -> Targets
         ensures { result ≡ extended (laid self.now.layout.now) self.now.barred via self.now.to x }
     {
@@ -96,6 +101,7 @@ impl<'a> Search<'a> {
     }
 
     // Whether template x is a fork whose branches cross, in either assignment: two searches.
+    #[tactic(auto, using(crate::proofs::Steps::fork_unreached))]
     fn fork_crosses(&self, forks: Forks, x: u8) -> bool
         requires { x < 64 }
         ensures { result ≡ fork_crosses (laid self.now.layout.now) self.now.barred self.now.to forks x }
@@ -108,30 +114,28 @@ impl<'a> Search<'a> {
         let passing = forks.passing.contains(x as u32);
         let m = self.layout.search_from(self.layout.first[i], self.barred);
         let n = self.layout.search_from(self.layout.second[i], self.barred);
-        crosses(self.to, direct, passing, m, n) | crosses(self.to, direct, passing, n, m)
+        crosses(self.to, direct, passing, m, n) || crosses(self.to, direct, passing, n, m)
     }
 
     // Whether the branches of some fork cross. Every fork is tried.
     fn some_fork_crosses(&self, forks: Forks) -> bool
         ensures { result ≡ any 64 (fork_crosses (laid self.now.layout.now) self.now.barred self.now.to forks) }
     {
-        let mut found = false;
-        for x in 0..64u8 {
-            found |= self.fork_crosses(forks, x);
-        }
-        found
+        (0..64u8).fold(false, |found, x| found | self.fork_crosses(forks, x))
     }
 
     // Whether routes from template y lead to the sink: one search.
+    #[tactic(auto, unfolding(route::specs::Search::leads, route::specs::Search::arrives, route::specs::Search::detours, lists::specs::Joins::both, lists::specs::Joins::either))]
     fn leads(&self, direct: bool, y: u8) -> bool
         ensures { result ≡ leads (laid self.now.layout.now) self.now.barred self.now.to.sink direct y }
     {
         let sink = self.to.sink;
         let m = self.layout.search_from(y, self.barred);
-        (direct & m.contains(sink.place as u32)) | meet(m, sink.ways)
+        direct && m.contains(sink.place as u32) || meet(m, sink.ways)
     }
 
     // Whether routes from some successor of template x lead to the sink. Every successor is tried.
+    #[tactic(auto, using(crate::proofs::Steps::none_leads))]
     fn some_successor_leads(&self, direct: bool, x: u8) -> bool
         ensures { result ≡ any_in (leads (laid self.now.layout.now) self.now.barred self.now.to.sink direct) (successors (at (laid self.now.layout.now) x).form) }
     {
@@ -141,13 +145,14 @@ impl<'a> Search<'a> {
         let i = x as usize;
         let one = self.leads(direct, self.layout.first[i]);
         let other = self.leads(direct, self.layout.second[i]);
-        one | other
+        one || other
     }
 }
 
 // Document 01's Joined (t, S, K, A), where creators is C: C barred, by way of A. No way is needed at a fork, nor from the
 // source, where the root reaches it without A. The searches: the root; the root, A barred; and, C barred, A, both branches
 // of every fork, every successor of the source.
+#[tactic(auto, unfolding(route::specs::Search::shares_over, lists::specs::Joins::both, lists::specs::Joins::either))]
 pub fn shares_tag(layout: &Layout, creators: u64, a: Assertion) -> bool
     ensures { result ≡ shares_over (laid layout.now) layout.now.forks creators a.source a.sink a.anc }
 {
@@ -162,11 +167,12 @@ pub fn shares_tag(layout: &Layout, creators: u64, a: Assertion) -> bool
     });
     let free = lacking.contains(a.source as u32);
     let down = search.some_successor_leads(free, a.source);
-    at_fork | (root.contains(a.source as u32) & down)
+    at_fork || root.contains(a.source as u32) && down
 }
 
 // Document 01's Parted (t, S, K, A), where creators is C: A barred, by way of C, at the forks that are reached from A. The
 // searches: the root; A; and, A barred, C if there is one and both branches of every fork.
+#[tactic(auto, unfolding(route::specs::Search::splits_over, lists::specs::Joins::both))]
 pub fn splits_tag(layout: &Layout, creators: u64, a: Assertion) -> bool
     ensures { result ≡ splits_over (laid layout.now) layout.now.forks creators a.source a.sink a.anc }
 {
@@ -179,5 +185,5 @@ pub fn splits_tag(layout: &Layout, creators: u64, a: Assertion) -> bool
         direct: 0,
         passing: under,
     });
-    root.contains(a.anc as u32) & at_fork
+    root.contains(a.anc as u32) && at_fork
 }

@@ -1,14 +1,14 @@
 -- The small steps of the code, each as the code meets it: what its calls gave are variables, and what they ensure are
 -- premises.
 use Prim.Native.Nat.{ℕ}
-use mathlib.Core.Path.{◌≡◌, refl, sym, ap, ap₂, ◌∙◌}
+use mathlib.Core.Path.{◌≡◌, refl, sym, ap, ◌∙◌}
 use mathlib.Core.List.{List}
-use mathlib.Core.Bool.{Bool, true, false, not, cond, ◌&&◌}
+use mathlib.Core.Bool.{Bool, true, false, cond}
 use lib.Dec.{ltb}
 use Rattle.lists.specs.Joins.{both}
-use Rattle.mask.specs.Mask.{has, plus}
+use Rattle.mask.specs.Mask.{plus}
 use Rattle.mask.specs.Sets.{plus_below}
-use Rattle.route.specs.Search.{in_mask, if_so, including, is_open, enter, reach}
+use Rattle.route.specs.Search.{in_mask, if_so, including, enter, reach}
 use Rattle.route.specs.Lent.{laid_out}
 
 -- ---- masks
@@ -29,12 +29,6 @@ not_included m x wanted e = go (ltb x 64) ∙ ap (including m x) (sym e)
     go : (b : Bool) → m ≡ if_so (both b false) m (λ _. plus m x)
     go true = refl
     go false = refl
-
--- ---- what is open
-
-pub open_is : (x barred seen : ℕ) (s b : Bool) → s ≡ has x seen → b ≡ has x barred → (ltb x 64 && (not s && not b)) ≡ is_open (in_mask barred) seen x
-unfolding is_open both
-open_is x barred seen s b p q = ap₂ (λ (u v : Bool). ltb x 64 && (not u && not v)) p q
 
 -- ---- a search
 

@@ -42,20 +42,19 @@ pub struct Forks {
 }
 
 // m with the template x, where x is wanted and a place of a plan.
+#[tactic(auto, using(crate::proofs::Steps::included, crate::proofs::Steps::not_included))]
 pub fn include(m: u64, x: u8, wanted: bool) -> u64
     ensures { result ≡ including m x wanted }
 {
-    if wanted {
-        return m.insert(x as u32);
-    }
-    m
+    if wanted { m.insert(x as u32) } else { m }
 }
 
 // Whether template x is to be entered: a place of a plan, not seen yet and not barred.
+#[tactic(auto, unfolding(crate::specs::Search::is_open, lists::specs::Joins::both))]
 fn is_open(x: u8, barred: u64, seen: u64) -> bool
     ensures { result ≡ is_open (in_mask barred) seen x }
 {
-    (x < 64) & (!seen.contains(x as u32) & !barred.contains(x as u32))
+    x < 64 && !seen.contains(x as u32) && !barred.contains(x as u32)
 }
 
 impl Layout {

@@ -1,7 +1,7 @@
 -- Rules 11 to 19, and the verdict: the first broken rule in document 01's order, with its figures ("The judge"); its numbers,
 -- and what `judge` prints of it.
 -- Believed: everything here. Proved against it: crates offenders, creation, edges, prot, assertions and verdict; step_rules also crate admission;
--- numbers_of crate words; printed crates report and judging.
+-- numbers_of this crate itself; printed crates report and judging.
 use Prim.Native.{Nat.{ℕ, zero, suc}, String.{String}}
 use mathlib.Core.{Bool.{Bool, not, cond, ◌&&◌, ◌||◌}, List.{List, [], ◌∷◌, ◌++◌}}
 use Rattle.std.specs.Prelude.{eqb, ltb, get_or}

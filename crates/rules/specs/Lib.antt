@@ -4,3 +4,4 @@ pub mod Broken
 pub mod Show
 pub mod Sentences
 pub mod Faults
+pub mod Words

@@ -2,8 +2,9 @@
 #![tactic(auto)]
 
 ghost use Rattle.std.specs.Prelude.{◌≡◌};
-ghost use Rattle.rules.specs.Judge.{or_else, is_edge_rule};
+ghost use Rattle.rules.specs.Judge.{or_else, is_edge_rule, text_number, numbers_of};
 ghost use Rattle.rules.specs.Broken.{accepted, answered};
+ghost use Rattle.rules.specs.Words.{part_words};
 
 // Which of the two texts.
 #[derive(Clone, Copy, PartialEq, Eq)]
@@ -56,6 +57,50 @@ pub struct Part {
     pub end: usize,
 }
 
+// What is answered as words, for a caller in another language (include/monitor.h): the number of a text,
+impl From<Text> for u32 {
+    ghost from_gives = { λ text number. number ≡ text_number text };
+
+    #[tactic(auto, unfolding(crate::specs::Judge::text_number))]
+    fn from(text: Text) -> u32 {
+        match text {
+            Text::Plan => 0,
+            Text::Policy => 1,
+        }
+    }
+}
+
+// a verdict,
+impl From<Verdict> for [u32; 5] {
+    ghost from_gives = { λ v words. words ≡ numbers_of v };
+
+    #[tactic(auto, unfolding(crate::specs::Judge::numbers_of))]
+    fn from(verdict: Verdict) -> [u32; 5] {
+        match verdict {
+            Verdict::Accepted => [0; 5],
+            Verdict::Broken(b) => [
+                1,
+                b.rule.into(),
+                b.first.into(),
+                b.second.into(),
+                b.identifier.into(),
+            ],
+            Verdict::Unread(f) => [2, f.text.into(), f.number.into(), f.line, 0],
+        }
+    }
+}
+
+// and where a shown part lies.
+impl From<Part> for [usize; 3] {
+    ghost from_gives = { λ part words. words ≡ part_words part };
+
+    #[tactic(auto, unfolding(crate::specs::Words::part_words))]
+    fn from(part: Part) -> [usize; 3] {
+        [u32::from(part.text) as usize, part.start, part.end]
+    }
+}
+
+#[tactic(auto, unfolding(crate::specs::Broken::accepted))]
 pub fn is_accepted(v: Verdict) -> bool
     ensures { result ≡ accepted v }
 {
@@ -63,6 +108,7 @@ pub fn is_accepted(v: Verdict) -> bool
 }
 
 // The first of two that is not accepted: of verdicts what `?` is of results.
+#[tactic(auto, unfolding(crate::specs::Judge::or_else))]
 pub fn or_else(v: Verdict, later: Verdict) -> Verdict
     ensures { result ≡ or_else v later }
 {

@@ -29,7 +29,7 @@ pub fn same_bytes(s: &[u8], t: &[u8]) -> bool
 
 // The bytes from start to end, those of them that the text has. An empty part, too, lies at its start, or at the text's end
 // where the start is past it.
-pub fn part<'a>(text: &'a [u8], start: usize, end: usize) -> &'a [u8]
+pub fn part(text: &[u8], start: usize, end: usize) -> &[u8]
     ensures result_value { result.now ≡ take (end - start) (drop start text.now) }
     ensures place { result.ref_ptr ≡ further (min start (length text.now)) text.entry.ref_ptr }
 {

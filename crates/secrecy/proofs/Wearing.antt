@@ -1,11 +1,9 @@
--- What a template may wear, by its risk; and the identifiers of a label that no template outside Declass may remove: the
--- turns of the loop over the templates.
+-- The identifiers of a label that no template outside Declass may remove: the turns of the loop over the templates.
 use Prim.Native.Nat.{ℕ, ◌+◌, ◌≤◌, ◌<◌, min}
 use mathlib.Core.Path.{◌≡◌, refl, sym, ap, ◌∙◌}
 use mathlib.Core.Logic.{◌⊎◌, inl, inr}
 use mathlib.Core.Bool.{Bool, true, false, not, cond, ◌&&◌, ◌||◌, and_assoc, or-true}
 use native.Mathlib.Omega.{arith}
-use lib.Bits.{bit_or}
 use lib.ListN.{length, get_or}
 use Rattle.lists.proofs.Tests.{lt_or_le}
 use Rattle.lists.specs.Numbers.{every}
@@ -16,17 +14,7 @@ use Rattle.plan.specs.declared.Template.{Template}
 use Rattle.plan.specs.declared.Plan.{Plan}
 use Rattle.plan.specs.Plan.{blank, at}
 use Rattle.plan.proofs.Places.{template_past}
-use Rattle.secrecy.specs.Lent.{keeps, wearables}
-
--- ---- one label
-
-pub wearables_risked : (X : Template) → X.risk ≡ true → bit_or X.lab X.pos ≡ wearables X
-unfolding wearables
-wearables_risked X e = sym (ap (λ (b : Bool). cond b (bit_or X.lab X.pos) X.lab) e)
-
-pub wearables_safe : (X : Template) → X.risk ≡ false → X.lab ≡ wearables X
-unfolding wearables
-wearables_safe X e = sym (ap (λ (b : Bool). cond b (bit_or X.lab X.pos) X.lab) e)
+use Rattle.secrecy.specs.Lent.{keeps}
 
 -- ---- one template
 
@@ -37,12 +25,6 @@ kept_all false = refl
 keep_one : (kept neg t : ℕ) (d : Bool) → has t (cond d kept (without kept neg)) ≡ (has t kept && (d || not (has t neg)))
 keep_one kept neg t true = kept_all (has t kept)
 keep_one kept neg t false = has-without t kept neg
-
-pub keep_whole : (kept neg : ℕ) (d b : Bool) → b ≡ d → b ≡ true → kept ≡ cond d kept (without kept neg)
-keep_whole kept neg d b e f = sym (ap (λ (x : Bool). cond x kept (without kept neg)) (sym e ∙ f))
-
-pub keep_less : (kept neg r : ℕ) (d b : Bool) → b ≡ d → b ≡ false → r ≡ without kept neg → r ≡ cond d kept (without kept neg)
-keep_less kept neg r d b e f h = h ∙ sym (ap (λ (x : Bool). cond x kept (without kept neg)) (sym e ∙ f))
 
 -- ---- all templates
 

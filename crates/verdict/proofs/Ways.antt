@@ -7,16 +7,14 @@ use Rattle.plan.specs.declared.Plan.{Plan}
 use Rattle.plan.specs.declared.Policy.{Policy}
 use Rattle.plan.specs.Range.{InRange}
 use Rattle.text.specs.declared.Refused.{Refused as RefusedLine}
-use Rattle.text.specs.Reading.{PlanRead, PolicyRead, read_plan, read_policy}
-use Rattle.text.specs.Answers.{refusal_of, plan_read, policy_read}
+use Rattle.text.specs.Reading.{PlanRead, read_plan}
+use Rattle.text.specs.Answers.{plan_read}
 use Rattle.reader.proofs.Range.{plan_in_range}
-use Rattle.rules.specs.declared.Text.TheVariants.{Plan as PlanText, Policy as PolicyText}
 use Rattle.rules.specs.declared.Breach.{Breach}
 use Rattle.rules.specs.declared.Verdict.{Verdict}
-use Rattle.rules.specs.Judge.{or_else, check11, check_edges, check_assertions, judge_read, after_reading, judge}
+use Rattle.rules.specs.Judge.{or_else, check11, check_edges, check_assertions, judge_read}
 use Rattle.rules.specs.Broken.{answered}
 use Rattle.rules.proofs.Walk.{or_stops, or_goes}
-use Rattle.verdict.specs.Over.{unread, judge_over}
 
 -- ---- what was read
 
@@ -39,22 +37,6 @@ module _ (plan : Plan) (policy : Policy) (v : Result (Unit {0}) Breach) (e : ans
     pub passed_edges : (u : Unit {0}) → w ≡ Ok u → (r : Result (Unit {0}) Breach) → answered r ≡ check_assertions plan policy → answered r ≡ judge_read plan policy
     passed_edges u g r m = m ∙ or_goes w (check_edges plan) (check_assertions plan policy) u h g ∙ passed_11
 
--- ---- the policy
-
-module _ (plan : Plan) (text : List ℕ) (p : Result Policy RefusedLine) (e : policy_read p ≡ read_policy plan.count text) where
-  over : (q : Result Policy RefusedLine) → p ≡ q → judge_over plan text ≡ after_reading PolicyText (policy_read q).answer (judge_read plan (policy_read q).policy)
-  unfolding judge_over
-  over q h = ap (λ (x : PolicyRead). after_reading PolicyText x.answer (judge_read plan x.policy)) (sym e ∙ ap policy_read h)
-
-  pub policy_complete : (q : Policy) → p ≡ Ok q → (r : Result (Unit {0}) Breach) → answered r ≡ judge_read plan q → (v : Verdict) → v ≡ answered r
-      → v ≡ judge_over plan text
-  unfolding after_reading
-  policy_complete q h r k v m = m ∙ k ∙ sym (over (Ok q) h)
-
-  pub policy_refused : (r : RefusedLine) → p ≡ Err r → (v : Verdict) → v ≡ unread PolicyText (refusal_of r) → v ≡ judge_over plan text
-  unfolding after_reading unread
-  policy_refused r h v k = k ∙ sym (over (Err r) h)
-
 -- ---- the plan
 
 module _ (plan policy : List ℕ) (p : Result Plan RefusedLine) (e : plan_read p ≡ read_plan plan) where
@@ -65,15 +47,3 @@ module _ (plan policy : List ℕ) (p : Result Plan RefusedLine) (e : plan_read p
   plan_range q h =
       subst (λ (x : PlanRead). InRange x.plan) (read_as (Ok q) h)
       (plan_in_range plan (ap (λ (x : PlanRead). x.answer) (read_as (Ok q) h)))
-
-  whole : (q : Result Plan RefusedLine) → p ≡ q → judge plan policy ≡ after_reading PlanText (plan_read q).answer (judge_over (plan_read q).plan policy)
-  unfolding judge judge_over
-  whole q h = ap (λ (x : PlanRead). after_reading PlanText x.answer (judge_over x.plan policy)) (read_as q h)
-
-  pub plan_complete : (q : Plan) → p ≡ Ok q → (v : Verdict) → v ≡ judge_over q policy → v ≡ judge plan policy
-  unfolding after_reading
-  plan_complete q h v k = k ∙ sym (whole (Ok q) h)
-
-  pub plan_refused : (r : RefusedLine) → p ≡ Err r → (v : Verdict) → v ≡ unread PlanText (refusal_of r) → v ≡ judge plan policy
-  unfolding after_reading unread
-  plan_refused r h v k = k ∙ sym (whole (Err r) h)

@@ -28,12 +28,13 @@ fn unread(text: Text, r: Refused) -> Verdict
 {
     Verdict::Unread(Fault {
         text,
-        number: r.refusal.into(),
+        number: r.number(),
         line: r.line,
     })
 }
 
 // The policy text over a plan that was read.
+#[tactic(auto, unfolding(crate::specs::Over::judge_over, crate::specs::Over::unread, rules::specs::Judge::after_reading))]
 fn judge_over(plan: &Plan, policy: &[u8]) -> Verdict
     requires { InRange plan.now }
     ensures { result ≡ judge_over plan.now policy.now }
@@ -44,7 +45,10 @@ fn judge_over(plan: &Plan, policy: &[u8]) -> Verdict
     }
 }
 
-// Unread (the text, number and line), broken or accepted: the plan is read first, the policy only if the plan reads.
+// Unread (the text, number and line), broken or accepted: the plan is read first, the policy only if the plan reads. The two texts
+// stay two parameters, here and in all that is built on it: the operations of the documents and of the C interface take two, nothing
+// relates them, each is read on its own by one reader, and a struct of both would only put `texts.` into each clause.
+#[tactic(auto, unfolding(crate::specs::Over::judge_over, crate::specs::Over::unread, rules::specs::Judge::after_reading, rules::specs::Judge::judge))]
 pub fn judge(plan: &[u8], policy: &[u8]) -> Verdict
     ensures { result ≡ judge plan.now policy.now }
 {

@@ -1,17 +1,11 @@
--- So far no template from the given one on creates it.
-use native.Mathlib.Omega.{arith}
-use Rattle.creation.proofs.Creators.{from_start, from_miss, from_hit, from_end}
+-- The first of a range that passes is the lowest.
+use Rattle.std.proofs.Common.{rules}
+use borrow.Author.Tests.{tests}
+use Rattle.std.proofs.lemmas.Iterator.{first_from_Range}
+use Rattle.creation.proofs.Creators.{from_first}
 use Rattle.creation.proofs.creator_from.Goals as goal
 
-pub loop-x-init : goal.loop-x-init
-loop-x-init c = from_start _ _ _
-
-pub returns-then-contains : goal.returns-then-contains
-returns-then-contains c =
-    from_hit _ _ _ _ c.loop-x.invariant c.loop-x.auto.x _ c.contains.ensures c.if-contains.true (omega (arith, c.capped-x-end.ensures))
-
-pub loop-x-preserved : goal.loop-x-preserved
-loop-x-preserved c = from_miss _ _ _ _ c.loop-x.invariant c.loop-x.auto.x _ c.contains.ensures c.if-contains.false
-
 pub returns : goal.returns
-returns c = from_end _ _ _ _ c.loop-x.invariant (omega (arith, c.capped-x-end.ensures))
+returns c =
+    from_first c.args.plan.now c.args.t c.args.from c.capped.result c.capped.ensures c.find.result
+    (first_from_Range _ c.find.new.self _ c.find.result _ _ c.find.ensures.ran (λ x q k. search (rules, tests)) (λ x q k. search (rules, tests)))

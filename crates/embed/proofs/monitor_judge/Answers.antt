@@ -4,4 +4,4 @@ use Rattle.rules.specs.Judge.{numbers_of}
 use Rattle.embed.proofs.monitor_judge.Goals as goal
 
 pub returns : goal.returns
-returns c = c.verdict_words.ensures ∙ ap numbers_of c.judge-verdict.ensures
+returns c = c.into.ensures ∙ ap numbers_of c.judge-verdict.ensures

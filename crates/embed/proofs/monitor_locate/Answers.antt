@@ -1,7 +1,7 @@
 -- The words of the part that was located.
 use mathlib.Core.Path.{ap, ◌∙◌}
-use Rattle.words.specs.Words.{part_words}
+use Rattle.rules.specs.Words.{part_words}
 use Rattle.embed.proofs.monitor_locate.Goals as goal
 
 pub returns : goal.returns
-returns c = c.part_words.ensures ∙ ap part_words c.locate-part.ensures
+returns c = c.into.ensures ∙ ap part_words c.locate-part.ensures

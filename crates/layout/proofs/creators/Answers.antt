@@ -1,12 +1,9 @@
--- `layout::creators`: the loop has collected the creators below x.
-use Rattle.layout.proofs.Collecting.{collect_none, creators_more, collect_end}
+-- `layout::creators`: the test asks the mask that stands in the array.
+use Rattle.std.proofs.Common.{rules}
+use borrow.Author.Tests.{tests}
+use Rattle.layout.specs.Layout.{made_by}
 use Rattle.layout.proofs.creators.Goals as goal
 
-pub loop-x-init : goal.loop-x-init
-loop-x-init c = collect_none _
-
-pub loop-x-preserved : goal.loop-x-preserved
-loop-x-preserved c = search creators_more
-
 pub returns : goal.returns
-returns c = search collect_end
+unfolding made_by
+returns c = c.collect.ensures (made_by c.args.layout.now.creates c.args.t) (λ x b l e. search (rules, tests))

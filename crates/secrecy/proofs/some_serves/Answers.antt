@@ -1,20 +1,17 @@
--- So far none serves.
-use Rattle.lists.proofs.Every.{any_none, any_more, any_hit}
-use mathlib.Core.Path.{sym, ◌∙◌}
-use native.Mathlib.Omega.{arith}
+-- Any of those below the limit and the width of a mask; none past it serves.
+use Rattle.std.proofs.Common.{◌∙◌, rules}
+use native.Mathlib.Nat.{sub-zero}
+use borrow.Author.Tests.{tests}
+use Rattle.std.proofs.lemmas.Iterator.{YieldsList-from_range}
+use Rattle.std.proofs.lemmas.Iterator.Search.{any_from_yields_List}
+use Rattle.secrecy.specs.Lent.{joined, serves_by}
+use Rattle.relations.proofs.Steps.{any_from_0}
 use Rattle.secrecy.proofs.Serving.{none_serves}
 use Rattle.secrecy.proofs.some_serves.Goals as goal
 
-pub loop-t-init : goal.loop-t-init
-loop-t-init c = any_none _
-
-pub returns-then-identifier_serves : goal.returns-then-identifier_serves
-returns-then-identifier_serves c =
-    let l = c.min-t-end.ensures in
-    any_hit c.args.limit _ c.loop-t.t (omega arith) (sym c.identifier_serves.ensures ∙ c.if-identifier_serves.true)
-
-pub loop-t-preserved : goal.loop-t-preserved
-loop-t-preserved c = any_more c.loop-t.t _ c.loop-t.invariant (sym c.identifier_serves.ensures ∙ c.if-identifier_serves.false)
-
 pub returns : goal.returns
-returns c = search none_serves
+returns c =
+    let test = serves_by c.args.kept c.args.risked (joined c.args.layout.now c.args.a) in
+    any_from_yields_List test c.any.new.self _ c.any.result c.any.ensures.ran (YieldsList-from_range 0 _ _ (cc) (sub-zero _)) (λ x b q k. search (rules, tests))
+    ∙ any_from_0 _ test
+    ∙ none_serves _ _ _ c.ranges.kept.fits _ _ c.min.ensures

@@ -1,9 +1,9 @@
--- `Search::fork_crosses`, by cases: a template that is no fork or not reached, and a fork.
-use Rattle.relations.proofs.Steps.{fork_unreached, fork_reached}
+use Rattle.std.proofs.Common.{rules}
+use Rattle.relations.proofs.Steps.{fork_reached}
 use Rattle.relations.proofs.Search.fork_crosses.Goals as goal
 
-pub returns-then-not-contains : goal.returns-then-not-contains
-returns-then-not-contains c = search fork_unreached
+pub returns-then-crosses : goal.returns-then-crosses
+returns-then-crosses c = search (rules, fork_reached)
 
-pub returns : goal.returns
-returns c = search fork_reached
+pub returns-else-crosses : goal.returns-else-crosses
+returns-else-crosses c = search (rules, fork_reached)
