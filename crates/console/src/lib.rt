@@ -13,11 +13,7 @@ use std::rt::Files;
 use std::{io, str};
 
 // Room for a text, and for more bytes than a text may have, so that one that is too long is seen to be.
-pub fn large_buffer() -> [u8; 65536]
-    ensures { 65536 ≡ length result }
-{
-    [0; 65536]
-}
+pub const TEXT_ROOM: usize = 65536;
 
 // Reads until the buffer is full or the input ends, and answers how many bytes stand at the buffer's start. Not a `for`: a read
 // gives as many bytes as it will, so there are no turns to count.
@@ -92,8 +88,7 @@ pub fn print_hex_word<W: Write>(out: &mut W, n: u32) -> io::Result<()>
     print_hex_byte(out, d)
 }
 
-// What the closure makes of the two files' bytes. A buffer has more room than a text may have bytes, so a file that is too long is
-// seen to be.
+// What the closure makes of the two files' bytes.
 pub fn with_pair<F: FnOnce(&[u8], &[u8]) -> io::Result<()>>(
     rt: &impl Files,
     plan_name: &[u8],
@@ -103,8 +98,8 @@ pub fn with_pair<F: FnOnce(&[u8], &[u8]) -> io::Result<()>>(
     requires { F.IsAlwaysCallable f }
     ensures { OnOk result ((plan : _) × (policy : _) × F.post f plan policy result) }
 {
-    let mut plan_room = large_buffer();
-    let mut policy_room = large_buffer();
+    let mut plan_room = [0; TEXT_ROOM];
+    let mut policy_room = [0; TEXT_ROOM];
     let plan = read_file(rt, plan_name, &mut plan_room)?;
     let policy = read_file(rt, policy_name, &mut policy_room)?;
     f(plan, policy)

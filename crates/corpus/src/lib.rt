@@ -4,6 +4,7 @@
 
 ghost use Rattle.std.specs.Prelude.{◌≤◌, length, IfOk, IfSome};
 
+use console::TEXT_ROOM;
 use std::fs::File;
 use std::io;
 use std::io::Read;
@@ -49,12 +50,12 @@ pub fn read_pair<'a>(
 ) -> io::Result<Option<Pair<'a>>>
     ensures { IfOk result (λ found. IfSome found (λ pair. (length pair.plan.now ≤ length plan.old) × (length pair.policy.now ≤ length policy.old))) }
 {
-    let mut room = [0u8; 8];
+    let mut room = [0; 8];
     let header = console::read_full(file, &mut room)?;
     if header.len() < 8 {
         return Ok(None);
     }
-    let plan = read_text(file, plan, number(&header[0..4]))?;
+    let plan = read_text(file, plan, number(&header[..4]))?;
     let policy = read_text(file, policy, number(&header[4..8]))?;
     Ok(Some(Pair { plan, policy }))
 }
@@ -78,12 +79,12 @@ pub fn read_run<'a>(
 ) -> io::Result<Option<Run<'a>>>
     ensures { IfOk result (λ found. IfSome found (λ run. (length run.plan.now ≤ length plan.old) × (length run.policy.now ≤ length policy.old) × (length run.calls.now ≤ length calls.old))) }
 {
-    let mut room = [0u8; 22];
+    let mut room = [0; 22];
     let header = console::read_full(file, &mut room)?;
     if header.len() < 22 {
         return Ok(None);
     }
-    let plan = read_text(file, plan, number(&header[0..4]))?;
+    let plan = read_text(file, plan, number(&header[..4]))?;
     let policy = read_text(file, policy, number(&header[4..8]))?;
     let calls = read_text(file, calls, number(&header[10..14]))?;
     let next = number(&header[14..22]);
@@ -126,8 +127,8 @@ pub fn for_each_pair<F: FnMut(&[u8], &[u8]) -> io::Result<()>>(
         |file|
             requires { (state : F) (plan policy : _) → F.pre state plan policy }
         {
-            let mut plan = console::large_buffer();
-            let mut policy = console::large_buffer();
+            let mut plan = [0; TEXT_ROOM];
+            let mut policy = [0; TEXT_ROOM];
             let Some(pair) = read_pair(file, &mut plan, &mut policy)? else {
                 return Ok(None);
             };
@@ -149,9 +150,9 @@ pub fn for_each_run<F: FnMut(Run) -> io::Result<()>>(
         |file|
             requires { (state : F) (run : _) → F.pre state run }
         {
-            let mut plan = console::large_buffer();
-            let mut policy = console::large_buffer();
-            let mut calls = console::large_buffer();
+            let mut plan = [0; TEXT_ROOM];
+            let mut policy = [0; TEXT_ROOM];
+            let mut calls = [0; TEXT_ROOM];
             let Some(run) = read_run(file, &mut plan, &mut policy, &mut calls)? else {
                 return Ok(None);
             };

@@ -7,8 +7,8 @@ use Rattle.numerals.specs.Numerals.{decimal_of}
 use Rattle.rules.specs.declared.Text.{Text}
 use Rattle.rules.specs.Judge.{text_number, text_name}
 
--- A part is written into xs from a place on: ys stands then, and r is the place after it.
-pub record Appends (xs : List ℕ) (at : ℕ) (part ys : List ℕ) (r : ℕ) : Type 0 where
+-- A part is put into xs from a place on: ys stands then, and r is the place after it.
+pub record PutAt (xs : List ℕ) (at : ℕ) (part ys : List ℕ) (r : ℕ) : Type 0 where
   pub next : r ≡ at + length part
   pub left : ys ≡ sets xs at part
 

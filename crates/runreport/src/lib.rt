@@ -3,11 +3,9 @@
 
 ghost use Rattle.std.specs.Prelude.{OnOk};
 ghost use Rattle.std.specs.Io.KnownBytes.{Appends};
-ghost use Rattle.rules.specs.Judge.{printed};
 ghost use Rattle.runreport.specs.Run.{fault_line, run_lines, verdict_or_run};
 
 use machine::State;
-use report::ROOM;
 use rules::Verdict;
 use std::io;
 use std::io::Write;
@@ -35,15 +33,6 @@ fn print_run<W: Write>(
     printout::print_state(out, state)
 }
 
-// The verdict as judge prints it, by way of the buffer that report writes into.
-fn print_verdict<W: Write>(out: &mut W, verdict: Verdict) -> io::Result<()>
-    ensures { OnOk result (Appends (W.contents out.old) (W.contents out.new) (printed verdict)) }
-{
-    let mut text = [0u8; ROOM];
-    let n = report::write_verdict(verdict, &mut text);
-    console::print(out, &text[0..n])
-}
-
 // The run of an accepted pair, else the verdict.
 pub fn print_verdict_or_run<W: Write>(
     out: &mut W,
@@ -57,6 +46,6 @@ pub fn print_verdict_or_run<W: Write>(
     if let Verdict::Accepted = verdict {
         print_run(out, answers, state, fault)
     } else {
-        print_verdict(out, verdict)
+        report::print_verdict(out, verdict)
     }
 }

@@ -8,15 +8,12 @@ ghost use Rattle.std.specs.Io.KnownBytes.{Appends};
 ghost use Rattle.runreport.specs.Run.{verdict_or_run};
 
 use replaying::Replayed;
+use script::WORD_ROOM;
 use std::io;
 use std::io::Write;
 
-// As many as the longest text of calls can have.
-pub fn answer_room() -> [u8; 8192]
-    ensures { 8192 ≡ length result }
-{
-    [0; 8192]
-}
+// Room for as many answers as the longest text of calls can have.
+pub const ANSWER_ROOM: usize = 8192;
 
 // A run whose answers stand at the row's start.
 fn print_replayed<W: Write>(
@@ -42,9 +39,9 @@ pub fn print_run<W: Write, F: FnOnce(&[u32], &mut [u8]) -> Replayed>(
 ) -> io::Result<()>
     requires { F.IsAlwaysCallable run }
 {
-    let mut words = script::word_room();
+    let mut words = [0; WORD_ROOM];
     let script = script::read_calls(text, &mut words);
-    let mut answers = answer_room();
+    let mut answers = [0; ANSWER_ROOM];
     let replayed = run(script.words, &mut answers);
     print_replayed(out, replayed, &answers, script.fault)
 }
