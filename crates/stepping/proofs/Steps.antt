@@ -30,9 +30,9 @@ use Rattle.machine.proofs.Places.{remove_at}
 use Rattle.machine.proofs.Templates.{successors_fit, children_fit, plan_rooted}
 use Rattle.arrays.specs.Places.{Located}
 use Rattle.tagrows.specs.Rows.{child_tag}
-use Rattle.population.specs.declared.Settled.{Settled}
+use Rattle.population.specs.declared.Counts.{Counts}
 use Rattle.population.specs.Arrays.{cells}
-use Rattle.population.specs.Lent.{settles, outcome_from, unless_step, Tried}
+use Rattle.population.specs.Lent.{counts, machine_at, outcome_from, unless_step, Tried}
 use Rattle.population.proofs.Fits.{length_processes, formed_plan, formed_template, formed_identifiers, formed_few, formed_lookup, looked_at}
 use Rattle.population.proofs.Lent.{untouched, tried_same, placed_at, found_none, found_some, found_serial, alone}
 use Rattle.admission.specs.Admission.{innocent, fitting, all_fitting, refusal_of}
@@ -113,15 +113,15 @@ module _ (plan : Plan) (next live : ℕ) (c : Cells) (k branch : ℕ) (well : we
             (refuse_if (not fits) 25
             Done)))
 
-    abbrev Stepped : Settled → Cells → Type 0
-    Stepped r d = outcome_from plan r d ≡ step_by box_limits (machine_from plan next live c) (get_or c.serials k 0) branch (some (placed plan.identifiers c k))
+    abbrev Stepped : Answer → Counts → Cells → Type 0
+    Stepped a n d = outcome_from plan a n d ≡ step_by box_limits (machine_from plan next live c) (get_or c.serials k 0) branch (some (placed plan.identifiers c k))
 
-    step_refused : (n : ℕ) → a ≡ Refused n → Stepped (settles (Refused n) next live) c
+    step_refused : (n : ℕ) → a ≡ Refused n → Stepped (Refused n) (counts next live) c
     unfolding step_by machine_from placed
     step_refused n e = sym (settled_refused _ _ _ n (answers ∙ e))
 
     step_done : (d : Cells) → a ≡ Done → Advanced plan.identifiers next k (live - 1) c heirs.count heirs.first first heirs.second second d
-        → Stepped (settles Done (next + heirs.count) (live - 1 + heirs.count)) d
+        → Stepped Done (counts (next + heirs.count) (live - 1 + heirs.count)) d
     unfolding step_by stepped machine_from placed
     step_done d z w =
         (λ i. record { answer = Done; machine = record { plan = plan; next = serials i; live = processes i } })
@@ -152,10 +152,10 @@ all_next n (y ∷ ys) h e = all_head n ys h (and_right (ltb y n) _ e)
 
 module _ (row : List ℕ) (next live : ℕ) (c : Cells) (k branch : ℕ) (h : k < live) (w : ℕ) (ew : w ≡ identifiers_in row) where
   -- A row of more than 32 identifiers means a bad state.
-  pub place_wide : 32 < w → SteppedAt (plan_for row) next live c k branch (settles (Refused 20) next live) c
+  pub place_wide : 32 < w → SteppedAt (plan_for row) (counts next live) c k branch (Refused 20) (counts next live) c
   place_wide l = record {
     means = λ well. absurd (formed_few row next live c well w ew l);
-    same = untouched (plan_for row) next live c (Refused 20);
+    same = untouched (plan_for row) (counts next live) c (Refused 20);
   }
 
   module _ (t : Template) (looked : t ≡ template_at row (get_or c.templates k 0)) (heirs : Successors) (eh : listed heirs ≡ children t.form branch) (few : heirs.count ≤ 2)
@@ -190,23 +190,23 @@ module _ (row : List ℕ) (next live : ℕ) (c : Cells) (k branch : ℕ) (h : k 
       eq' : a ≡ refusal_of (plan_for row).identifiers next live (get_or c.labels k 0) t branch heirs.count first second
       eq' = eq ∙ ap (λ (M : ℕ). refusal_of M next live (get_or c.labels k 0) t branch heirs.count first second) (sym M-is)
 
-    pub place_refused : (n : ℕ) → a ≡ Refused n → SteppedAt (plan_for row) next live c k branch (settles (Refused n) next live) c
+    pub place_refused : (n : ℕ) → a ≡ Refused n → SteppedAt (plan_for row) (counts next live) c k branch (Refused n) (counts next live) c
     place_refused n e = record {
       means = λ well. step_refused (plan_for row) next live c k branch well h t (found well) heirs eh few first second (e₁ well) (e₂ well) a (eq' well) n e;
-      same = untouched (plan_for row) next live c (Refused n);
+      same = untouched (plan_for row) (counts next live) c (Refused n);
     }
 
-    pub place_done : (r : Settled) (d : Cells) → a ≡ Done → Room w next k (live - 1) heirs.count
+    pub place_done : (d : Cells) → a ≡ Done → Room w next k (live - 1) heirs.count
         → (Room w next k (live - 1) heirs.count → Advanced w next k (live - 1) c heirs.count heirs.first first heirs.second second d)
-        → r ≡ settles Done (next + heirs.count) (live - 1 + heirs.count) → SteppedAt (plan_for row) next live c k branch r d
+        → SteppedAt (plan_for row) (counts next live) c k branch Done (counts (next + heirs.count) (live - 1 + heirs.count)) d
     unfolding unless_done
-    place_done r d z room v er =
-        subst (λ (r : Settled). SteppedAt (plan_for row) next live c k branch r d) (sym er) (record {
+    place_done d z room v =
+        record {
           means = λ well.
               step_done (plan_for row) next live c k branch well h t (found well) heirs eh few first second (e₁ well) (e₂ well) a (eq' well) d z
               (subst (λ (M : ℕ). Advanced M next k (live - 1) c heirs.count heirs.first first heirs.second second d) (sym (M-is well)) (v room));
           same = Prim.tt;
-        })
+        }
 
 -- ---- 21 and the rest
 
@@ -220,15 +220,16 @@ module _ (row : List ℕ) (next live : ℕ) (xs ts ls gs : List ℕ) (serial bra
   place : well_formed box_limits m ≡ true → k ≡ lowest live (λ i. eqb (get_or xs i 0) serial)
   place well = placed_at (plan_for row) next live c well serial k sized at-k
 
-  pub step_gone : live ≤ k → Tried (plan_for row) next live (cells xs ts ls gs) (step serial branch) (settles (Refused 21) next live) (cells xs ts ls gs)
+  pub step_gone : live ≤ k → Tried (plan_for row) (counts next live) (cells xs ts ls gs) (step serial branch) (Refused 21) (counts next live) (cells xs ts ls gs)
   unfolding answer_to step_by machine_from
   step_gone l =
-      tried_same (plan_for row) next live c (step serial branch) (Refused 21) _ refl (λ well.
+      tried_same (plan_for row) (counts next live) c (step serial branch) (Refused 21) (λ well.
       sym (ap (step_by box_limits m serial branch) (found_none (plan_for row).identifiers live c serial k (place well) (omega arith)) ∙ settled_refused _ _ _ 21 refl))
 
-  pub step_live : (r : Settled) (d : Cells) → k < live → SteppedAt (plan_for row) next live (cells xs ts ls gs) k branch r d → Tried (plan_for row) next live (cells xs ts ls gs) (step serial branch) r d
+  pub step_live : (a : Answer) (n : Counts) (d : Cells) → k < live → SteppedAt (plan_for row) (counts next live) (cells xs ts ls gs) k branch a n d
+      → Tried (plan_for row) (counts next live) (cells xs ts ls gs) (step serial branch) a n d
   unfolding answer_to machine_from unless_step
-  step_live r d l w = record {
+  step_live a n d l w = record {
     means = λ well.
         w.means well
         ∙ sym (ap₂ (λ (s : ℕ) p. step_by box_limits m s branch p) (sym (found_serial (plan_for row).identifiers live c serial k (place well) (omega arith)))

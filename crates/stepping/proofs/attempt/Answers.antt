@@ -12,4 +12,4 @@ pub step_at-requires : goal.step_at-requires
 step_at-requires c = (c.in_ok-k.ensures.1, c.in_ok-k.ensures.2)
 
 pub returns : goal.returns
-returns c = step_live _ _ _ _ _ _ _ _ _ c.told-serials _ c.in_ok-k.ensures.0 _ _ c.in_ok-k.ensures.1 c.step_at.ensures
+returns c = step_live _ _ _ _ _ _ _ _ _ c.told-serials _ c.in_ok-k.ensures.0 _ _ _ c.in_ok-k.ensures.1 c.step_at.ensures
