@@ -1,13 +1,13 @@
 -- Refusals 22 to 25, as the code meets them: each callee's result is a variable, and what it ensures a premise.
-use Prim.Native.Nat.{ℕ, zero, suc, ◌+◌, ◌-◌, ◌≤◌, ◌<◌}
+use Prim.Native.Nat.{ℕ, ◌+◌, ◌-◌, ◌≤◌, ◌<◌}
 use mathlib.Core.Path.{◌≡◌, refl, sym, ap, ap₂, ◌∙◌}
 use mathlib.Core.Bool.{Bool, true, false, not, cond, ◌&&◌, ◌||◌, and-true}
 use mathlib.Core.Logic.{⊎_elim}
 use native.Mathlib.Omega.{arith}
 use lib.Dec.{ltb, leb, eqb}
 use lib.Bits.{bit_or}
-use Rattle.std.specs.Prelude.{Option, Some, None, is_some}
-use borrow.Author.Tests.{leb-true, le-leb, lt-leb, le-ltb, ltb-true, ltb-false, not-false}
+use Rattle.std.specs.Prelude.{List, length, Option, Some, None, is_some}
+use borrow.Author.Tests.{leb-true, le-leb, lt-leb, ltb-true, ltb-false, not-false}
 use Rattle.lists.specs.Numbers.{every, all, lowest}
 use Rattle.lists.proofs.Tests.{lt_or_le, same_test}
 use Rattle.lists.proofs.Every.{every_at, every_of}
@@ -21,6 +21,7 @@ use Rattle.machine.specs.declared.Answer.TheVariants.{Done, Refused}
 use Rattle.machine.specs.Machine.{refuse_if, branch_fits}
 use Rattle.machine.proofs.Outcomes.{refuse_yes, refuse_no}
 use Rattle.offenders.specs.Lowest.{lowest_of}
+use Rattle.population.specs.declared.Child.{Child}
 use Rattle.admission.specs.Admission.{innocent, fitting, all_fitting, refusal_of}
 
 -- ---- 25
@@ -63,49 +64,45 @@ fits_one M label X Y w o marks e none told =
     past true h = sym (lt-leb M l (ltb-true l M h))
     past false h = sym (le-leb M l (ltb-false l M h))
 
-pub fits_all : (M label : ℕ) (X : Template) (count : ℕ) (t u : Template) (a b : Bool) → a ≡ fitting M label X t → b ≡ fitting M label X u
-    → ((ltb count 1 || a) && (ltb count 2 || b)) ≡ all_fitting M label X count t u
-unfolding all_fitting
-fits_all M label X zero t u a b ea eb = refl
-fits_all M label X (suc zero) t u a b ea eb = and-true a ∙ ea
-fits_all M label X (suc (suc n)) t u a b ea eb =
-    rw (le-ltb (suc (suc n)) 1 (omega arith), le-ltb (suc (suc n)) 2 (omega arith)) (ap₂ ◌&&◌ ea eb)
+-- One alone.
+pub fits_lone : (b : Bool) → (b && true) ≡ b
+fits_lone b = and-true b
 
 -- ---- the first that holds
 
-module _ (M next live label : ℕ) (X : Template) (branch count : ℕ) (t u : Template) (b : Bool) (eb : b ≡ branch_fits X.form branch) where
-  pub refused_22 : not b ≡ true → Refused 22 ≡ refusal_of M next live label X branch count t u
+module _ (M next live label : ℕ) (X : Template) (branch : ℕ) (children : List Child) (b : Bool) (eb : b ≡ branch_fits X.form branch) where
+  pub refused_22 : not b ≡ true → Refused 22 ≡ refusal_of M next live label X branch children
   unfolding refusal_of
   refused_22 h = sym (refuse_yes (not (branch_fits X.form branch)) 22 _ (ap not (sym eb) ∙ h))
 
-  module _ (h : not b ≡ false) where
-    from_23 : refusal_of M next live label X branch count t u
-        ≡ refuse_if (eqb count 2 && not (leb (live + 1) 128)) 23 (refuse_if (not (leb (next + count) 4294967295)) 24 (refuse_if (not (all_fitting M label X count t u)) 25 Done))
+  module _ (h : not b ≡ false) (count : ℕ) (ec : count ≡ length children) where
+    from_23 : refusal_of M next live label X branch children
+        ≡ refuse_if (eqb (count) 2 && not (leb (live + 1) 128)) 23 (refuse_if (not (leb (next + count) 4294967295)) 24 (refuse_if (not (all_fitting M label X children)) 25 Done))
     unfolding refusal_of
-    from_23 = refuse_no (not (branch_fits X.form branch)) 22 _ (ap not (sym eb) ∙ h)
+    from_23 = rw ec (refuse_no (not (branch_fits X.form branch)) 22 _ (ap not (sym eb) ∙ h))
 
-    room : (eqb count 2 && not (leb (live + 1) 128)) ≡ (eqb count 2 && leb 128 live)
+    room : (eqb (count) 2 && not (leb (live + 1) 128)) ≡ (eqb (count) 2 && leb 128 live)
     room =
-        ap (λ (t : Bool). eqb count 2 && t)
+        ap (λ (t : Bool). eqb (count) 2 && t)
         (⊎_elim (λ l. ap not (le-leb (live + 1) 128 (omega arith)) ∙ sym (lt-leb 128 live l)) (λ g. ap not (lt-leb (live + 1) 128 (omega arith)) ∙ sym (le-leb 128 live g)) (lt_or_le live 128))
 
-    pub refused_23 : (eqb count 2 && leb 128 live) ≡ true → Refused 23 ≡ refusal_of M next live label X branch count t u
+    pub refused_23 : (eqb (count) 2 && leb 128 live) ≡ true → Refused 23 ≡ refusal_of M next live label X branch children
     refused_23 q = sym (from_23 ∙ refuse_yes _ 23 _ (room ∙ q))
 
-    module _ (q : (eqb count 2 && leb 128 live) ≡ false) (few : count < 256) where
-      from_24 : refusal_of M next live label X branch count t u
-          ≡ refuse_if (not (leb (next + count) 4294967295)) 24 (refuse_if (not (all_fitting M label X count t u)) 25 Done)
+    module _ (q : (eqb (count) 2 && leb 128 live) ≡ false) (few : count ≤ 4294967295) where
+      from_24 : refusal_of M next live label X branch children
+          ≡ refuse_if (not (leb (next + count) 4294967295)) 24 (refuse_if (not (all_fitting M label X children)) 25 Done)
       from_24 = from_23 ∙ refuse_no _ 23 _ (room ∙ q)
 
-      pub refused_24 : 4294967295 - count < next → Refused 24 ≡ refusal_of M next live label X branch count t u
+      pub refused_24 : 4294967295 - count < next → Refused 24 ≡ refusal_of M next live label X branch children
       refused_24 l = sym (from_24 ∙ refuse_yes _ 24 _ (ap not (lt-leb (next + count) 4294967295 (omega arith))))
 
-      module _ (l : next ≤ 4294967295 - count) (a : Bool) (ea : a ≡ all_fitting M label X count t u) where
-        from_25 : refusal_of M next live label X branch count t u ≡ refuse_if (not (all_fitting M label X count t u)) 25 Done
+      module _ (l : next ≤ 4294967295 - count) (a : Bool) (ea : a ≡ all_fitting M label X children) where
+        from_25 : refusal_of M next live label X branch children ≡ refuse_if (not (all_fitting M label X children)) 25 Done
         from_25 = from_24 ∙ refuse_no _ 24 _ (ap not (le-leb (next + count) 4294967295 (omega arith)))
 
-        pub refused_25 : not a ≡ true → Refused 25 ≡ refusal_of M next live label X branch count t u
+        pub refused_25 : not a ≡ true → Refused 25 ≡ refusal_of M next live label X branch children
         refused_25 r = sym (from_25 ∙ refuse_yes _ 25 _ (ap not (sym ea) ∙ r))
 
-        pub refused_none : not a ≡ false → Done ≡ refusal_of M next live label X branch count t u
+        pub refused_none : not a ≡ false → Done ≡ refusal_of M next live label X branch children
         refused_none r = sym (from_25 ∙ refuse_no _ 25 _ (ap not (sym ea) ∙ r))

@@ -1,4 +1,4 @@
--- What a template that fits gives, one successor and one mask at a time; so what each template of a plan in range does.
+-- What a template that fits gives, one successor and one mask at a time; and the successors of each template of a plan in range.
 use Prim.Native.Nat.{ℕ, ◌^◌, ◌≤◌, ◌<◌}
 use mathlib.Core.Path.{◌≡◌, refl}
 use mathlib.Core.Logic.{◌⊎◌, inl, inr}
@@ -44,6 +44,3 @@ module _ (plan : Plan) (range : InRange plan) where
 
   pub successor_below : (X Y : ℕ) → Successor plan X Y → Y < plan.count
   successor_below X = successor_fits plan.count plan.identifiers (at plan X) (every_fits X)
-
-  pub mask_below : (X mask : ℕ) → Among mask (masks (at plan X)) → mask < 2 ^ plan.identifiers
-  mask_below X = mask_fits plan.count plan.identifiers (at plan X) (every_fits X)

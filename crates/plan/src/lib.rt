@@ -1,7 +1,8 @@
 // A plan and a policy as they are after reading, and what stands at a place of them.
 #![tactic(auto)]
 
-ghost use Rattle.std.specs.Prelude.{◌≡◌, min};
+ghost use Rattle.std.specs.Prelude.{◌≡◌, min, length};
+ghost use Rattle.std.specs.List.{AllZip};
 ghost use Rattle.plan.specs.Plan.{blank, blank_assertion, at, successors, assertion_at};
 ghost use Rattle.plan.specs.Listed.{listed};
 
@@ -60,12 +61,12 @@ pub struct Policy {
     pub assertions: [Assertion; 32],
 }
 
-// The successors of a template: none, the first alone, or both.
+// The successors of a template, the children of a step.
 #[derive(Clone, Copy)]
-pub struct Successors {
-    pub count: u8,
-    pub first: u8,
-    pub second: u8,
+pub enum UpToTwo<T> {
+    None,
+    One(T),
+    Two(T, T),
 }
 
 // A count, cut at a limit: past the places of an array its count says nothing new.
@@ -127,25 +128,37 @@ impl Policy {
 
 impl Form {
     #[tactic(auto, unfolding(crate::specs::Plan::successors))]
-    pub fn successors(self) -> Successors
+    pub fn successors(self) -> UpToTwo<u8>
         ensures { listed result ≡ successors self }
     {
         match self {
-            Form::End => Successors {
-                count: 0,
-                first: 0,
-                second: 0,
-            },
-            Form::Go(y) => Successors {
-                count: 1,
-                first: y,
-                second: 0,
-            },
-            Form::Either(y, z) | Form::Both(y, z) => Successors {
-                count: 2,
-                first: y,
-                second: z,
-            },
+            Form::End => UpToTwo::None,
+            Form::Go(y) => UpToTwo::One(y),
+            Form::Either(y, z) | Form::Both(y, z) => UpToTwo::Two(y, z),
+        }
+    }
+}
+
+impl<T> UpToTwo<T> {
+    pub fn count(&self) -> u32
+        ensures { result ≡ length (listed self.now) }
+    {
+        match self {
+            UpToTwo::None => 0,
+            UpToTwo::One(_) => 1,
+            UpToTwo::Two(_, _) => 2,
+        }
+    }
+
+    // What f makes of each.
+    pub fn map<U, F: Fn(T) -> U>(self, f: F) -> UpToTwo<U>
+        requires { F.IsAlwaysCallable f }
+        ensures { AllZip (F.post f) (listed self) (listed result) }
+    {
+        match self {
+            UpToTwo::None => UpToTwo::None,
+            UpToTwo::One(x) => UpToTwo::One(f(x)),
+            UpToTwo::Two(x, y) => UpToTwo::Two(f(x), f(y)),
         }
     }
 }

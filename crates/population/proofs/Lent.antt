@@ -3,7 +3,6 @@
 use Prim.Native.Nat.{ℕ, ◌≤◌, ◌<◌}
 use mathlib.Core.Path.{◌≡◌, refl, sym, ap, ◌∙◌, subst}
 use mathlib.Core.Bool.{Bool, true, false, not}
-use mathlib.Core.List.{List}
 use mathlib.Core.Option.{none, some}
 use native.Mathlib.Omega.{arith}
 use lib.Dec.{eqb}
@@ -12,8 +11,6 @@ use borrow.Author.Tests.{eqb-true, not-true, not-false}
 use Rattle.lists.specs.Numbers.{lowest}
 use Rattle.lists.proofs.Lowest.{lowest-holds}
 use Rattle.plan.specs.declared.Plan.{Plan}
-use Rattle.planrow.specs.Row.{identifiers_in}
-use Rattle.planrow.specs.Lookup.{plan_for}
 use Rattle.arrays.specs.Places.{Located}
 use Rattle.arrays.proofs.Serials.{place_of_start}
 use Rattle.machine.specs.declared.Answer.{Answer}
@@ -23,7 +20,7 @@ use Rattle.machine.specs.State.{Cells, placed, processes_of, machine_from, unles
 use Rattle.machine.proofs.Places.{find_live, find_gone, places_differ}
 use Rattle.population.specs.declared.Counts.{Counts}
 use Rattle.population.specs.Lent.{counts, machine_at, outcome_from, Same, LabelsAlone, unless_step, Did, Tried}
-use Rattle.population.proofs.Fits.{formed_rising, formed_live, formed_serials, formed_few}
+use Rattle.population.proofs.Fits.{formed_rising, formed_live, formed_serials}
 
 -- ---- the ways out of a call
 
@@ -57,12 +54,6 @@ module _ (plan : Plan) (n : Counts) (c : Cells) where
 -- What is so of any next serial is so of any counts with so many live.
 pub of_live : (P : Counts → Type 0) (live : ℕ) → ((next : ℕ) → P (counts next live)) → (n : Counts) → n.live ≡ live → P n
 of_live P live f n e = subst (λ (l : ℕ). P (counts n.next l)) (sym e) (f n.next)
-
--- A row of more than 32 identifiers means a bad state.
-pub tried_wide : (row : List ℕ) (n : Counts) (c : Cells) (call : Call) (k : ℕ) → k ≡ identifiers_in row → 32 < k
-    → Tried (plan_for row) n c call (Refused 20) n c
-tried_wide row n c call k ek h =
-    tried_same (plan_for row) n c call (Refused 20) (λ well. absurd (formed_few row n.next n.live c well k ek h))
 
 -- ---- 20
 

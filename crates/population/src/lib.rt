@@ -68,14 +68,6 @@ pub struct Child {
     pub template: Template,
 }
 
-// The children of a step: the first `count` of two, the first with the lower serial.
-#[derive(Clone, Copy)]
-pub struct Children {
-    pub count: u8,
-    pub first: Child,
-    pub second: Child,
-}
-
 // What a call changes beside the arrays: the next serial, and how many live.
 #[derive(Clone, Copy)]
 pub struct Counts {

@@ -3,13 +3,15 @@
 // The lent arrays are parameters of their own: crate population says why.
 #![tactic(auto)]
 
-ghost use Rattle.std.specs.Prelude.{◌≡◌, ◌<◌, ◌≤◌};
+ghost use Rattle.std.specs.Prelude.{◌≡◌, ◌<◌, ◌≤◌, length};
 ghost use Rattle.lists.specs.Numbers.{tabulate};
+ghost use Rattle.plan.specs.Listed.{listed};
 ghost use Rattle.machine.specs.State.{placed, processes_of};
 ghost use Rattle.population.specs.Arrays.{cells};
 ghost use Rattle.spawning.specs.Spawning.{skipping, Entered, Room, Advanced};
 
-use population::{Child, Children};
+use plan::UpToTwo;
+use population::Child;
 
 // The process at place k goes: those above it, up to the last, move down.
 fn leave(
@@ -35,9 +37,8 @@ fn leave(
     blocks::shift(tags, from, to, m as usize);
 }
 
-// A child comes to the place after the others, if it is to come; row holds its parent's tags.
+// A child comes to the place after the others; row holds its parent's tags.
 fn enter(
-    comes: bool,
     m: u32,
     at: u32,
     serial: u32,
@@ -50,16 +51,14 @@ fn enter(
 )
     ensures { let c = cells serials.old templates.old labels.old tags.old in
         let d = cells serials.new templates.new labels.new tags.new in
-        Entered comes m at row serial child.number child.template.lab child.template.creates c d }
+        Entered m at row serial child c d }
 {
-    if comes {
-        let place = at as usize;
-        arrays::put(serials, place, serial);
-        arrays::put(templates, place, child.number);
-        arrays::put(labels, place, child.template.lab);
-        let from = tagrows::row_start(at, m);
-        tagrows::write_row(tags, from, row, child.template.creates, serial);
-    }
+    let place = at as usize;
+    arrays::put(serials, place, serial);
+    arrays::put(templates, place, child.number);
+    arrays::put(labels, place, child.template.lab);
+    let from = tagrows::row_start(at, m);
+    tagrows::write_row(tags, from, row, child.template.creates, serial);
 }
 
 // Document 01, Step: "Else the process goes". Its children come, the first with the lower serial; their parent's tags are
@@ -69,7 +68,7 @@ pub fn advance(
     next: u32,
     k: u32,
     last: u32,
-    children: Children,
+    children: UpToTwo<Child>,
     serials: &mut [u32; 128],
     templates: &mut [u32; 128],
     labels: &mut [u32; 128],
@@ -77,39 +76,20 @@ pub fn advance(
 )
     ensures { let c = cells serials.old templates.old labels.old tags.old in
         let d = cells serials.new templates.new labels.new tags.new in
-        let first = children.first in
-        let second = children.second in
-        (Room m next k last children.count →
-        Advanced m next k last c children.count first.number first.template second.number second.template d) }
+        (Room m next k last (length (listed children)) → Advanced m next k last c (listed children) d) }
 {
     let from = tagrows::row_start(k, m);
     let row = tagrows::copy_row(tags, from);
     leave(m, k, last, serials, templates, labels, tags);
-    enter(
-        1 <= children.count,
-        m,
-        last,
-        next,
-        children.first,
-        row,
-        serials,
-        templates,
-        labels,
-        tags,
-    );
-    // Where there is room for a second child, neither sum wraps.
-    let at = std::num::wrapping_add_u32(last, 1);
-    let serial = std::num::wrapping_add_u32(next, 1);
-    enter(
-        2 <= children.count,
-        m,
-        at,
-        serial,
-        children.second,
-        row,
-        serials,
-        templates,
-        labels,
-        tags,
-    );
+    match children {
+        UpToTwo::None => {}
+        UpToTwo::One(y) => enter(m, last, next, y, row, serials, templates, labels, tags),
+        UpToTwo::Two(y, z) => {
+            enter(m, last, next, y, row, serials, templates, labels, tags);
+            // Where there is room for a second child, neither sum wraps.
+            let at = last.wrapping_add(1);
+            let serial = next.wrapping_add(1);
+            enter(m, at, serial, z, row, serials, templates, labels, tags);
+        }
+    }
 }

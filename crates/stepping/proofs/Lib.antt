@@ -1,2 +1,3 @@
-pub mod Room
+mod Room
+mod Heirs
 pub mod Steps

@@ -11,9 +11,9 @@ ghost use Rattle.population.specs.Refusals.{done_or};
 ghost use Rattle.stepping.specs.Stepping.{SteppedAt};
 
 use planrow::WORDS;
-use population::{Child, Children, Counts, Refusal};
+use population::{Child, Counts, Refusal};
 
-// The step of the process at place k. A row of more than 32 identifiers means a bad state, whose tags have no places.
+// The step of the process at place k.
 fn step_at(
     row: &[u32; WORDS],
     counts: &mut Counts,
@@ -31,35 +31,28 @@ fn step_at(
         SteppedAt plan counts.old c k branch (done_or result) counts.new d }
 {
     let m = planrow::identifier_count(row);
-    if 32 < m {
-        return Err(Refusal::BadState);
-    }
     let t = planrow::template_at(row, templates[k]);
     let heirs = admission::children_of(t.form, branch);
-    let y = heirs.first as u32;
-    let z = heirs.second as u32;
-    let children = Children {
-        count: heirs.count,
-        first: Child {
-            number: y,
-            template: planrow::template_at(row, y),
-        },
-        second: Child {
-            number: z,
-            template: planrow::template_at(row, z),
-        },
-    };
-    let Counts { next, live } = *counts;
-    admission::admit(m, next, live, labels[k], t, branch, children)?;
-    let last = live - 1;
+    let children = heirs.map(|y| Child {
+        number: y as u32,
+        template: planrow::template_at(row, y as u32),
+    });
+    admission::admit(m, *counts, labels[k], t, branch, children)?;
+    let last = counts.live - 1;
     spawning::advance(
-        m, next, k as u32, last, children, serials, templates, labels, tags,
+        m,
+        counts.next,
+        k as u32,
+        last,
+        children,
+        serials,
+        templates,
+        labels,
+        tags,
     );
-    let born = heirs.count as u32;
-    *counts = Counts {
-        next: next + born,
-        live: last + born,
-    };
+    let born = children.count();
+    counts.next += born;
+    counts.live = last + born;
     Ok(())
 }
 

@@ -6,18 +6,18 @@ use mathlib.Core.Bool.{not}
 use Rattle.admission.proofs.admit.Goals as goal
 
 pub returns-then-not-is_branch : goal.returns-then-not-is_branch
-returns-then-not-is_branch c = refused_22 _ _ _ _ _ _ _ _ _ _ c.is_branch.ensures (ap not c.if-not-is_branch.true)
+returns-then-not-is_branch c = refused_22 _ _ _ _ _ _ _ _ c.is_branch.ensures (ap not c.if-not-is_branch.true)
 
-pub returns-then-count-live : goal.returns-then-count-live
-returns-then-count-live c = refused_23 _ _ _ _ _ _ _ _ _ _ c.is_branch.ensures (ap not c.if-not-is_branch.false) c.if-count-live.true
+pub returns-then-born-counts : goal.returns-then-born-counts
+returns-then-born-counts c = refused_23 _ _ _ _ _ _ _ _ c.is_branch.ensures (ap not c.if-not-is_branch.false) _ c.count-born.ensures c.if-born-counts.true
 
-pub returns-then-count-next : goal.returns-then-count-next
-returns-then-count-next c = refused_24 _ _ _ _ _ _ _ _ _ _ c.is_branch.ensures (ap not c.if-not-is_branch.false) c.if-count-live.false (omega arith) c.if-count-next.true
+pub returns-then-born-counts-2 : goal.returns-then-born-counts-2
+returns-then-born-counts-2 c = refused_24 _ _ _ _ _ _ _ _ c.is_branch.ensures (ap not c.if-not-is_branch.false) _ c.count-born.ensures c.if-born-counts.false (omega arith) c.if-born-counts-2.true
 
 pub returns-then-not-are_fitting : goal.returns-then-not-are_fitting
-returns-then-not-are_fitting c = refused_25 _ _ _ _ _ _ _ _ _ _ c.is_branch.ensures (ap not c.if-not-is_branch.false) c.if-count-live.false (omega arith) c.if-count-next.false _
+returns-then-not-are_fitting c = refused_25 _ _ _ _ _ _ _ _ c.is_branch.ensures (ap not c.if-not-is_branch.false) _ c.count-born.ensures c.if-born-counts.false (omega arith) c.if-born-counts-2.false _
     c.are_fitting.ensures (ap not c.if-not-are_fitting.true)
 
 pub returns : goal.returns
-returns c = refused_none _ _ _ _ _ _ _ _ _ _ c.is_branch.ensures (ap not c.if-not-is_branch.false) c.if-count-live.false (omega arith) c.if-count-next.false _
+returns c = refused_none _ _ _ _ _ _ _ _ c.is_branch.ensures (ap not c.if-not-is_branch.false) _ c.count-born.ensures c.if-born-counts.false (omega arith) c.if-born-counts-2.false _
     c.are_fitting.ensures (ap not c.if-not-are_fitting.false)

@@ -8,8 +8,5 @@ pub returns-in_err-k : goal.returns-in_err-k
 returns-in_err-k c = let p = err_from_is_err_and c.from_residual.result c.from_residual.ensures.1 in
     rw (p.1, p.2, c.in_err-k.ensures.1) (step_gone _ _ _ _ _ _ _ _ _ c.told-serials _ c.in_err-k.ensures.0 (omega arith))
 
-pub step_at-requires : goal.step_at-requires
-step_at-requires c = (c.in_ok-k.ensures.1, c.in_ok-k.ensures.2)
-
 pub returns : goal.returns
 returns c = step_live _ _ _ _ _ _ _ _ _ c.told-serials _ c.in_ok-k.ensures.0 _ _ _ c.in_ok-k.ensures.1 c.step_at.ensures
