@@ -9,7 +9,7 @@ ghost use Rattle.population.specs.Refusals.{done_or};
 ghost use Rattle.admission.specs.Admission.{innocent, fitting, all_fitting, refusal_of};
 
 use plan::{Form, Template, UpToTwo};
-use population::{Child, Refusal};
+use population::{Child, Counts, Refusal};
 
 // Document 01, 22: "branch is not 0, or for `either` not 0 or 1".
 #[tactic(auto, unfolding(machine::specs::Machine::branch_fits))]
@@ -67,23 +67,22 @@ fn are_fitting(m: u32, label: u32, x: Template, children: UpToTwo<Child>) -> boo
 // The first refusal from 22 to 25 of a process at x, of that label, which is to have those children.
 pub fn admit(
     m: u32,
-    next: u32,
-    live: u32,
+    counts: Counts,
     label: u32,
     x: Template,
     branch: u32,
     children: UpToTwo<Child>,
 ) -> Result<(), Refusal>
-    ensures { done_or result ≡ refusal_of m next live label x branch (listed children) }
+    ensures { done_or result ≡ refusal_of m counts.next counts.live label x branch (listed children) }
 {
     if !is_branch(x.form, branch) {
         return Err(Refusal::NoBranch);
     }
-    let count = children.count();
-    if count == 2 && 128 <= live {
+    let born = children.count();
+    if born == 2 && 128 <= counts.live {
         return Err(Refusal::NoRoom);
     }
-    if u32::MAX - count < next {
+    if u32::MAX - born < counts.next {
         return Err(Refusal::NoSerial);
     }
     if !are_fitting(m, label, x, children) {

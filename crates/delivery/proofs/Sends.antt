@@ -16,7 +16,7 @@ use Rattle.machine.specs.Machine.{Machine, send, box_limits, well_formed, agree,
 use Rattle.machine.specs.State.{Cells, words_from, placed, machine_from}
 use Rattle.machine.proofs.Templates.{plan_few}
 use Rattle.population.specs.Arrays.{cells}
-use Rattle.population.specs.Lent.{settles, Tried}
+use Rattle.population.specs.Lent.{counts, Tried}
 use Rattle.population.specs.Refusals.{Among}
 use Rattle.population.proofs.Fits.{formed_plan, formed_live, formed_identifiers}
 use Rattle.population.proofs.Lent.{tried_same, placed_at, found_none, found_some}
@@ -35,27 +35,27 @@ module _ (row : List ℕ) (next live : ℕ) (xs ts ls gs : List ℕ) (from to : 
     found_a : well_formed box_limits m ≡ true → a ≡ lowest live (λ i. eqb (get_or xs i 0) from)
     found_a well = placed_at (plan_for row) next live c well from a sized at_a
 
-    pub sent_from_none : live ≤ a → Tried (plan_for row) next live (cells xs ts ls gs) (send from to) (settles (Refused 21) next live) (cells xs ts ls gs)
+    pub sent_from_none : live ≤ a → Tried (plan_for row) (counts next live) (cells xs ts ls gs) (send from to) (Refused 21) (counts next live) (cells xs ts ls gs)
     unfolding answer_to send_by settled if_done machine_from
     sent_from_none l =
-        tried_same (plan_for row) next live c (send from to) (Refused 21) _ refl (λ well.
+        tried_same (plan_for row) (counts next live) c (send from to) (Refused 21) (λ well.
         rw (found_none M live c from a (found_a well) (omega arith)))
 
     module _ (la : a < live) (b : ℕ) (at_b : Among xs live to b) where
       found_b : well_formed box_limits m ≡ true → b ≡ lowest live (λ i. eqb (get_or xs i 0) to)
       found_b well = placed_at (plan_for row) next live c well to b sized at_b
 
-      pub sent_to_none : live ≤ b → Tried (plan_for row) next live (cells xs ts ls gs) (send from to) (settles (Refused 21) next live) (cells xs ts ls gs)
+      pub sent_to_none : live ≤ b → Tried (plan_for row) (counts next live) (cells xs ts ls gs) (send from to) (Refused 21) (counts next live) (cells xs ts ls gs)
       unfolding answer_to send_by settled if_done machine_from
       sent_to_none l =
-          tried_same (plan_for row) next live c (send from to) (Refused 21) _ refl (λ well.
+          tried_same (plan_for row) (counts next live) c (send from to) (Refused 21) (λ well.
           rw (found_some M live c from a (found_a well) (omega arith), found_none M live c to b (found_b well) (omega arith)))
 
       module _ (lb : b < live) where
-        pub sent_itself : from ≡ to → Tried (plan_for row) next live (cells xs ts ls gs) (send from to) (settles (Refused 26) next live) (cells xs ts ls gs)
+        pub sent_itself : from ≡ to → Tried (plan_for row) (counts next live) (cells xs ts ls gs) (send from to) (Refused 26) (counts next live) (cells xs ts ls gs)
         unfolding answer_to send_by settled if_done machine_from refuse_if
         sent_itself e =
-            tried_same (plan_for row) next live c (send from to) (Refused 26) _ refl (λ well.
+            tried_same (plan_for row) (counts next live) c (send from to) (Refused 26) (λ well.
             rw (found_some M live c from a (found_a well) (omega arith), found_some M live c to b (found_b well) (omega arith), eq-eqb from to e))
 
         -- k is the row's number of identifiers; the rows of tags are there where the state is not bad.
@@ -71,9 +71,9 @@ module _ (row : List ℕ) (next live : ℕ) (xs ts ls gs : List ℕ) (from to : 
               omega arith
 
           pub sent_short : length gs ≡ 4096 → (a * k + k ≤ length gs → b * k + k ≤ length gs → ⊥)
-              → Tried (plan_for row) next live (cells xs ts ls gs) (send from to) (settles Held next live) (cells xs ts ls gs)
+              → Tried (plan_for row) (counts next live) (cells xs ts ls gs) (send from to) Held (counts next live) (cells xs ts ls gs)
           sent_short room short =
-              tried_same (plan_for row) next live c (send from to) Held _ refl (λ well. absurd (short (row_there room well a la) (row_there room well b lb)))
+              tried_same (plan_for row) (counts next live) c (send from to) Held (λ well. absurd (short (row_there room well a la) (row_there room well b lb)))
 
           -- r is the answer of `is_passed`.
           module _ (r : Bool) (er : r ≡ agree k (get_or ls a 0) (words_from k gs (a * k)) (get_or ls b 0) (words_from k gs (b * k))) where
@@ -87,10 +87,10 @@ module _ (row : List ℕ) (next live : ℕ) (xs ts ls gs : List ℕ) (from to : 
                 rw (found_some M live c from a (found_a well) (omega arith), found_some M live c to b (found_b well) (omega arith), ne_eqb from to e)
                 (ap (λ (r : Bool). settled m (cond r Delivered Held) m) (passed well))
 
-            pub sent_delivered : r ≡ true → Tried (plan_for row) next live (cells xs ts ls gs) (send from to) (settles Delivered next live) (cells xs ts ls gs)
+            pub sent_delivered : r ≡ true → Tried (plan_for row) (counts next live) (cells xs ts ls gs) (send from to) Delivered (counts next live) (cells xs ts ls gs)
             unfolding settled if_done
-            sent_delivered q = tried_same (plan_for row) next live c (send from to) Delivered _ refl (λ well. sym (settled_send well ∙ rw q refl))
+            sent_delivered q = tried_same (plan_for row) (counts next live) c (send from to) Delivered (λ well. sym (settled_send well ∙ rw q refl))
 
-            pub sent_held : r ≡ false → Tried (plan_for row) next live (cells xs ts ls gs) (send from to) (settles Held next live) (cells xs ts ls gs)
+            pub sent_held : r ≡ false → Tried (plan_for row) (counts next live) (cells xs ts ls gs) (send from to) Held (counts next live) (cells xs ts ls gs)
             unfolding settled if_done
-            sent_held q = tried_same (plan_for row) next live c (send from to) Held _ refl (λ well. sym (settled_send well ∙ rw q refl))
+            sent_held q = tried_same (plan_for row) (counts next live) c (send from to) Held (λ well. sym (settled_send well ∙ rw q refl))

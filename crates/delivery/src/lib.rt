@@ -7,7 +7,8 @@ ghost use Rattle.mask.specs.Mask.{has};
 ghost use Rattle.planrow.specs.Lookup.{plan_for};
 ghost use Rattle.machine.specs.Machine.{send, agree};
 ghost use Rattle.population.specs.Arrays.{cells};
-ghost use Rattle.population.specs.Lent.{settles, Tried};
+ghost use Rattle.population.specs.declared.Counts.{Counts};
+ghost use Rattle.population.specs.Lent.{Tried};
 ghost use Rattle.population.specs.Refusals.{answer_or};
 
 use machine::Answer;
@@ -46,9 +47,9 @@ pub fn attempt(
     to: u32,
 ) -> Result<Answer, Refusal>
     ensures { let plan = plan_for row.now in
-        ((next : ℕ) (templates : List ℕ) →
+        ((templates : List ℕ) (n : Counts) → n.live ≡ live →
         let c = cells serials.now templates labels.now tags.now in
-        Tried plan next live c (send from to) (settles (answer_or result) next live) c) }
+        Tried plan n c (send from to) (answer_or result) n c) }
 {
     let a = population::find(serials, live, from)?;
     let b = population::find(serials, live, to)?;

@@ -8,12 +8,12 @@ ghost use Rattle.machine.specs.State.{call_of};
 ghost use Rattle.planrow.specs.Lookup.{plan_for};
 ghost use Rattle.population.specs.Arrays.{cells};
 ghost use Rattle.population.specs.Lent.{Tried, Did};
-ghost use Rattle.population.specs.Refusals.{settled_or};
+ghost use Rattle.population.specs.Refusals.{answer_or};
 ghost use Rattle.dispatch.specs.Calls.{meant, words_of};
 
 use machine::Answer;
 use planrow::WORDS;
-use population::{Refusal, Settled};
+use population::{Counts, Refusal};
 
 #[derive(Clone, Copy)]
 pub enum Call {
@@ -65,65 +65,59 @@ impl From<Call> for [u32; 3] {
 #[tactic(auto, unfolding(labelling::specs::Labelling::moves))]
 fn attempt(
     row: &[u32; WORDS],
-    next: u32,
-    live: u32,
+    counts: &mut Counts,
     serials: &mut [u32; 128],
     templates: &mut [u32; 128],
     labels: &mut [u32; 128],
     tags: &mut [u32; 4096],
     call: Call,
-) -> Result<Settled, Refusal>
+) -> Result<Answer, Refusal>
     ensures { let plan = plan_for row.now in
         let c = cells serials.old templates.old labels.old tags.old in
         let d = cells serials.new templates.new labels.new tags.new in
-        Tried plan next live c (meant call) (settled_or next live result) d }
+        Tried plan counts.old c (meant call) (answer_or result) counts.new d }
 {
+    let live = counts.live;
     match call {
         Call::Step { serial, branch } => {
             stepping::attempt(
-                row, next, live, serials, templates, labels, tags, serial, branch,
-            )
+                row, counts, serials, templates, labels, tags, serial, branch,
+            )?;
         }
         Call::Send { from, to } => {
-            let sent = delivery::attempt(row, live, serials, labels, tags, from, to)?;
-            Ok(population::settle(sent, next, live))
+            return delivery::attempt(row, live, serials, labels, tags, from, to);
         }
         Call::Raise { serial, identifier } => {
             labelling::attempt(
                 row, live, serials, templates, labels, serial, identifier, true,
             )?;
-            Ok(population::settle(Answer::Done, next, live))
         }
         Call::Lower { serial, identifier } => {
             labelling::attempt(
                 row, live, serials, templates, labels, serial, identifier, false,
             )?;
-            Ok(population::settle(Answer::Done, next, live))
         }
     }
+    Ok(Answer::Done)
 }
 
 // One call: 20 stands before every other refusal.
 pub fn run_call(
     row: &[u32; WORDS],
-    next: u32,
-    live: u32,
+    counts: &mut Counts,
     serials: &mut [u32; 128],
     templates: &mut [u32; 128],
     labels: &mut [u32; 128],
     tags: &mut [u32; 4096],
     call: Call,
-) -> Settled
+) -> Answer
     ensures { let plan = plan_for row.now in
         let c = cells serials.old templates.old labels.old tags.old in
         let d = cells serials.new templates.new labels.new tags.new in
-        Did plan next live c (meant call) result d }
+        Did plan counts.old c (meant call) result counts.new d }
 {
-    if !population::is_well_formed(row, next, live, serials, templates, labels, tags) {
-        return population::settle(Answer::from(Refusal::BadState), next, live);
+    if !population::is_well_formed(row, *counts, serials, templates, labels, tags) {
+        return Answer::from(Refusal::BadState);
     }
-    match attempt(row, next, live, serials, templates, labels, tags, call) {
-        Ok(settled) => settled,
-        Err(refusal) => population::settle(Answer::from(refusal), next, live),
-    }
+    attempt(row, counts, serials, templates, labels, tags, call).unwrap_or_else(Answer::from)
 }

@@ -11,6 +11,7 @@ ghost use Rattle.rules.specs.Words.{part_words};
 ghost use Rattle.memory.specs.Memory.{held, Answers, Runs};
 ghost use Rattle.embed.specs.Embed.{Starts, ReplayedAll};
 
+use machine::Started;
 use planrow::WORDS;
 
 // Unread, broken or accepted.
@@ -44,20 +45,14 @@ pub fn monitor_start(
     ensures { let k = held place.new serials.new templates.new labels.new tags.new in
         Starts plan.now policy.now words.new row.new k }
 {
-    let begun = starting::start(plan, policy);
-    let state = begun.state;
-    *words = begun.verdict.into();
+    let Started { verdict, state } = starting::start(plan, policy);
+    *words = verdict.into();
     *row = encoding::row_of(state.plan);
     *place = [state.next, state.live];
-    // By way of variables: the borrow checker takes no array straight from a field.
-    let s = state.serials;
-    *serials = s;
-    let t = state.templates;
-    *templates = t;
-    let l = state.labels;
-    *labels = l;
-    let g = state.tags;
-    *tags = g;
+    serials.copy_from_slice(&state.serials);
+    templates.copy_from_slice(&state.templates);
+    labels.copy_from_slice(&state.labels);
+    tags.copy_from_slice(&state.tags);
 }
 
 // One call: its kind (0 step, 1 send, 2 raise, any other number lower) and its two numbers.

@@ -4,27 +4,30 @@ use mathlib.Core.Path.{◌≡◌, refl, sym, ap, ap₂, ◌∙◌}
 use mathlib.Core.Bool.{Bool, true, false, not}
 use mathlib.Core.List.{List}
 use native.Mathlib.Omega.{arith}
-use lib.Bits.{bit_or}
 use lib.Dec.{eqb, ltb}
 use lib.ListN.{length, get_or, set}
 use lib.Seq.{get_or-set_same, get_or-set_other}
 use borrow.Author.Tests.{le-ltb, lt-ltb, ltb-true, not-false}
 use Rattle.lists.specs.Numbers.{lowest}
+use Rattle.std.specs.Int.Bits.{or_zero_l}
 use Rattle.mask.specs.Mask.{has, plus, without}
+use Rattle.mask.specs.Sets.{plus_below}
+use Rattle.mask.proofs.Items.{plus-below}
 use Rattle.plan.specs.declared.Plan.{Plan}
 use Rattle.plan.specs.declared.Template.{Template}
 use Rattle.planrow.specs.Row.{identifiers_in}
 use Rattle.planrow.specs.Lookup.{plan_for, template_at}
-use Rattle.arrays.specs.Places.{Located}
+use Rattle.population.specs.Refusals.{Among}
 use Rattle.machine.specs.declared.Answer.{Answer}
 use Rattle.machine.specs.declared.Answer.TheVariants.{Done, Refused}
 use Rattle.machine.specs.Machine.{Process, Machine, box_limits, well_formed, find, refuse_if, relabel, movable, label_with, move_answer, moved, settled, move_by, answer_to}
 use Rattle.machine.specs.State.{Cells, words_from, placed, processes_of, machine_from, unless_done}
 use Rattle.machine.proofs.Places.{relabel_at}
+use Rattle.machine.proofs.Templates.{plan_few}
 use Rattle.machine.proofs.Outcomes.{refuse_yes, refuse_no, refuse_done, settled_refused, settled_done}
 use Rattle.population.specs.Arrays.{cells}
-use Rattle.population.specs.Lent.{settles, Tried}
-use Rattle.population.proofs.Fits.{formed_live, formed_identifiers, looked_at}
+use Rattle.population.specs.Lent.{counts, Tried}
+use Rattle.population.proofs.Fits.{formed_plan, formed_live, formed_identifiers, looked_at}
 use Rattle.population.proofs.Lent.{unless_step_lem, tried_same, placed_at, found_none, found_some, found_serial, alone}
 use Rattle.labelling.specs.Labelling.{moves, refusal_of}
 
@@ -80,7 +83,7 @@ unfolding answer_to moves
 move_by_lem m true s i = refl
 move_by_lem m false s i = refl
 
-module _ (row : List ℕ) (next live : ℕ) (xs ts ls gs : List ℕ) (present : Bool) (s i : ℕ) (sized : length xs ≡ 128) (k : ℕ) (at-k : Located xs 0 live s k) where
+module _ (row : List ℕ) (next live : ℕ) (xs ts ls gs : List ℕ) (present : Bool) (s i : ℕ) (sized : length xs ≡ 128) (k : ℕ) (at-k : Among xs live s k) where
   abbrev c : Cells
   c = cells xs ts ls gs
 
@@ -93,10 +96,10 @@ module _ (row : List ℕ) (next live : ℕ) (xs ts ls gs : List ℕ) (present : 
   found : well_formed box_limits m ≡ true → k ≡ lowest live (λ i. eqb (get_or xs i 0) s)
   found well = placed_at (plan_for row) next live c well s k sized at-k
 
-  pub move_gone : live ≤ k → Tried (plan_for row) next live (cells xs ts ls gs) (moves present s i) (settles (Refused 21) next live) (cells xs ts ls gs)
+  pub move_gone : live ≤ k → Tried (plan_for row) (counts next live) (cells xs ts ls gs) (moves present s i) (Refused 21) (counts next live) (cells xs ts ls gs)
   unfolding move_by machine_from
   move_gone l =
-      tried_same (plan_for row) next live c (moves present s i) (Refused 21) _ refl (λ well.
+      tried_same (plan_for row) (counts next live) c (moves present s i) (Refused 21) (λ well.
       sym (move_by_lem m present s i ∙ ap (move_by m s present i) (found_none M live c s k (found well) (omega arith)) ∙ settled_refused _ _ _ 21 refl))
 
   module _ (l : k < live) (w : ℕ) (ew : w ≡ identifiers_in row) (t : Template) (looked : t ≡ template_at row (get_or ts k 0)) (allowed : ℕ) (ea : allowed ≡ movable present t)
@@ -111,12 +114,19 @@ module _ (row : List ℕ) (next live : ℕ) (xs ts ls gs : List ℕ) (present : 
         ∙ ap (λ (a : ℕ). settled m (refusal_of w t.risk a i) (moved m s (label_with present (get_or ls k 0) i))) (sym ea)
         ∙ ap (λ (a : Answer). settled m a (moved m s (label_with present (get_or ls k 0) i))) (sym eq)
 
-    pub move_refused : (n : ℕ) → a ≡ Refused n → Tried (plan_for row) next live (cells xs ts ls gs) (moves present s i) (settles (Refused n) next live) (cells xs ts ls gs)
+    pub move_refused : (n : ℕ) → a ≡ Refused n → Tried (plan_for row) (counts next live) (cells xs ts ls gs) (moves present s i) (Refused n) (counts next live) (cells xs ts ls gs)
     move_refused n z =
-        tried_same (plan_for row) next live c (moves present s i) (Refused n) _ refl (λ well. sym (moved_by well ∙ settled_refused _ _ _ n z))
+        tried_same (plan_for row) (counts next live) c (moves present s i) (Refused n) (λ well. sym (moved_by well ∙ settled_refused _ _ _ n z))
 
-    pub move_done : a ≡ Done → (label : ℕ) (ls' : List ℕ) → label ≡ label_with present (get_or ls k 0) i → length ls ≡ 128 → ls' ≡ set ls k label
-        → Tried (plan_for row) next live (cells xs ts ls gs) (moves present s i) (settles Done next live) (cells xs ts ls' gs)
+    -- An identifier that may be moved is one of the plan's, so that a mask has it.
+    width : well_formed box_limits m ≡ true → a ≡ Done → i < 32
+    width well z =
+        let few = plan_few (plan_for row) (formed_plan (plan_for row) next live c well) in
+        let is = formed_identifiers row next live c well in
+        let b = not_refused w t.risk allowed i (sym z ∙ eq) in omega (arith, few, is, ew, b)
+
+    pub move_done : a ≡ Done → (label : ℕ) (ls' : List ℕ) → (i < 32 → label ≡ label_with present (get_or ls k 0) i) → length ls ≡ 128 → ls' ≡ set ls k label
+        → Tried (plan_for row) (counts next live) (cells xs ts ls gs) (moves present s i) Done (counts next live) (cells xs ts ls' gs)
     unfolding moved machine_from unless_done
     move_done z label ls' el room e = record {
       means = λ well.
@@ -124,30 +134,18 @@ module _ (row : List ℕ) (next live : ℕ) (xs ts ls gs : List ℕ) (present : 
           let serial = found_serial M live c s k (found well) (omega arith) in
           sym (moved_by well ∙ settled_done _ _ _ z
           ∙ ap (λ (ps : List Process). record { answer = Done; machine = record { plan = plan_for row; next = next; live = ps } })
-          (ap₂ (λ (s label : ℕ). relabel s label (processes_of M live c)) (sym serial) (sym el)
+          (ap₂ (λ (s label : ℕ). relabel s label (processes_of M live c)) (sym serial) (sym (el (width well z)))
           ∙ relabelled_places (plan_for row) next live xs ts ls gs well k (omega arith) label ls' (omega (arith, room, few)) e));
       same = Prim.tt;
-      others = unless_step_lem (moves present s i) _ (record { next_stays = refl; live_stays = refl; serials_stay = refl; templates_stay = refl; tags_stay = refl });
+      others = unless_step_lem (moves present s i) _ (record { counts_stay = refl; serials_stay = refl; templates_stay = refl; tags_stay = refl });
     }
 
--- The identifier is within what a mask has.
-pub below-width : (M : ℕ) (risk : Bool) (allowed i : ℕ) → Done ≡ refusal_of M risk allowed i → M ≤ 32 → i < 32
-below-width M risk allowed i e few = let b = not_refused M risk allowed i e in omega (arith, few, b)
+-- ---- the label, by the direction
 
--- ---- the label
-
-pub label_raised : (present : Bool) (label i w : ℕ) → w ≡ 2 ^ i → present ≡ true → bit_or label w ≡ label_with present label i
-unfolding label_with plus
-label_raised present label i w e h = ap (bit_or label) e ∙ ap (λ (b : Bool). label_with b label i) (sym h)
-
-pub label_lowered : (present : Bool) (label i w r : ℕ) → w ≡ 2 ^ i → r ≡ without label w → present ≡ false → r ≡ label_with present label i
+pub label_raised : (present : Bool) (label i r : ℕ) → present ≡ true → r ≡ plus_below 32 label i → i < 32 → r ≡ label_with present label i
 unfolding label_with
-label_lowered present label i w r e er h = er ∙ ap (without label) e ∙ ap (λ (b : Bool). label_with b label i) (sym h)
+label_raised present label i r h e l = e ∙ plus-below 32 label i l ∙ ap (λ (b : Bool). label_with b label i) (sym h)
 
-pub movable_raised : (present : Bool) (t : Template) → present ≡ true → t.pos ≡ movable present t
-unfolding movable
-movable_raised present t e = ap (λ (b : Bool). movable b t) (sym e)
-
-pub movable_lowered : (present : Bool) (t : Template) → present ≡ false → t.neg ≡ movable present t
-unfolding movable
-movable_lowered present t e = ap (λ (b : Bool). movable b t) (sym e)
+pub label_lowered : (present : Bool) (label i w r : ℕ) → present ≡ false → w ≡ plus_below 32 0 i → r ≡ without label w → i < 32 → r ≡ label_with present label i
+unfolding label_with plus
+label_lowered present label i w r h e er l = er ∙ ap (without label) (e ∙ plus-below 32 0 i l ∙ or_zero_l (2 ^ i)) ∙ ap (λ (b : Bool). label_with b label i) (sym h)

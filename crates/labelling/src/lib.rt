@@ -2,11 +2,12 @@
 // The lent arrays are parameters of their own: crate population says why.
 #![tactic(auto)]
 
-ghost use Rattle.std.specs.Prelude.{◌≡◌, List, ℕ, ◌<◌, ◌≤◌, ◌^◌};
+ghost use Rattle.std.specs.Prelude.{◌≡◌, List, ℕ, ◌<◌};
 ghost use Rattle.planrow.specs.Lookup.{plan_for};
 ghost use Rattle.machine.specs.Machine.{movable, label_with};
 ghost use Rattle.population.specs.Arrays.{cells};
-ghost use Rattle.population.specs.Lent.{settles, Tried};
+ghost use Rattle.population.specs.declared.Counts.{Counts};
+ghost use Rattle.population.specs.Lent.{Tried};
 ghost use Rattle.population.specs.Refusals.{done_or};
 ghost use Rattle.labelling.specs.Labelling.{moves, refusal_of};
 
@@ -15,15 +16,8 @@ use plan::Template;
 use planrow::WORDS;
 use population::Refusal;
 
-// The mask of identifier i alone.
-fn single(i: u32) -> u32
-    requires { i < 32 }
-    ensures { result ≡ 2 ^ i }
-{
-    1u32 << i
-}
-
 // "Pos (raise) or neg (lower)."
+#[tactic(auto, unfolding(machine::specs::Machine::movable))]
 fn movable_of(present: bool, t: Template) -> u32
     ensures { result ≡ movable present t }
 {
@@ -31,8 +25,8 @@ fn movable_of(present: bool, t: Template) -> u32
 }
 
 // The first refusal from 27 to 29.
+#[tactic(auto, unfolding(crate::specs::Labelling::refusal_of, machine::specs::Machine::refuse_if))]
 fn permit(m: u32, risk: bool, allowed: u32, i: u32) -> Result<(), Refusal>
-    requires { m ≤ 32 }
     ensures { done_or result ≡ refusal_of m risk allowed i }
 {
     if m <= i {
@@ -47,20 +41,20 @@ fn permit(m: u32, risk: bool, allowed: u32, i: u32) -> Result<(), Refusal>
     Ok(())
 }
 
-// "The label has, or lacks, that identifier."
+// "The label has, or lacks, that identifier", where a mask has it.
+#[tactic(auto, using(crate::proofs::Labels::label_raised, crate::proofs::Labels::label_lowered))]
 fn label_with(present: bool, label: u32, i: u32) -> u32
-    requires { i < 32 }
-    ensures { result ≡ label_with present label i }
+    ensures { (i < 32 → result ≡ label_with present label i) }
 {
     if present {
-        label | single(i)
+        label.insert(i)
     } else {
-        mask::difference(label, single(i))
+        mask::difference(label, 0u32.insert(i))
     }
 }
 
 // Document 01, Raise and lower: 21; 27 if the identifier is not below M; 28 if the template is not at risk; 29 if not in
-// pos, of a raise, or neg. A row of more than 32 identifiers means a bad state, and no mask has them.
+// pos, of a raise, or neg.
 pub fn attempt(
     row: &[u32; WORDS],
     live: u32,
@@ -72,19 +66,15 @@ pub fn attempt(
     present: bool,
 ) -> Result<(), Refusal>
     ensures { let plan = plan_for row.now in
-        ((next : ℕ) (tags : List ℕ) →
+        ((tags : List ℕ) (n : Counts) → n.live ≡ live →
         let c = cells serials.now templates.now labels.old tags in
         let d = cells serials.now templates.now labels.new tags in
-        Tried plan next live c (moves present serial identifier) (settles (done_or result) next live) d) }
+        Tried plan n c (moves present serial identifier) (done_or result) n d) }
 {
     let k = population::find(serials, live, serial)?;
     let m = planrow::identifier_count(row);
-    if 32 < m {
-        return Err(Refusal::BadState);
-    }
     let t = planrow::template_at(row, templates[k]);
     permit(m, t.risk, movable_of(present, t), identifier)?;
-    let label = label_with(present, labels[k], identifier);
-    labels[k] = label;
+    labels[k] = label_with(present, labels[k], identifier);
     Ok(())
 }

@@ -2,7 +2,8 @@
 // refusal 24.
 #![tactic(auto)]
 
-use replaying::Replayed;
+use machine::Started;
+use replaying::{Ran, Replayed};
 use std::io;
 use std::io::Write;
 
@@ -14,15 +15,12 @@ fn replay_from(
     calls: &[u32],
     answers: &mut [u8],
 ) -> Replayed {
-    let started = starting::start(plan, policy);
-    let verdict = started.verdict;
-    let mut state = started.state;
+    let Started { verdict, mut state } = starting::start(plan, policy);
     state.next = next;
-    let ran = replaying::play(state, calls, answers);
-    let state = ran.state;
+    let Ran { state, count } = replaying::play(state, calls, answers);
     Replayed {
         verdict,
-        count: ran.count,
+        count,
         state,
     }
 }

@@ -1,5 +1,8 @@
-// The monitor's state and its answers. The functions on them stand in the crates above.
+// The monitor's state and its answers. The functions on a state stand in the crates above.
 #![tactic(auto)]
+
+ghost use Rattle.std.specs.Prelude.{◌≡◌};
+ghost use Rattle.machine.specs.State.{code_of};
 
 use plan::Plan;
 use rules::Verdict;
@@ -26,6 +29,21 @@ pub enum Answer {
     Delivered,
     Held,
     Refused(u8),
+}
+
+// 0 done, 1 delivered, 2 held, and a refusal's own number.
+impl From<Answer> for u8 {
+    ghost from_gives = { λ answer code. code ≡ code_of answer };
+
+    #[tactic(auto, unfolding(crate::specs::State::code_of))]
+    fn from(answer: Answer) -> u8 {
+        match answer {
+            Answer::Done => 0,
+            Answer::Delivered => 1,
+            Answer::Held => 2,
+            Answer::Refused(number) => number,
+        }
+    }
 }
 
 // What an operation hands back. The state comes first: it then lies as the caller's own does, and is copied less often.

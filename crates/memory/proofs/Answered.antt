@@ -9,14 +9,15 @@ use Rattle.planrow.specs.Row.{plan_of_row}
 use Rattle.planrow.specs.Lookup.{plan_for}
 use Rattle.planrow.proofs.Fits.{unfit_not}
 use Rattle.planrow.proofs.Lookup.{stands_for, means_none}
+use Rattle.machine.specs.declared.Answer.{Answer}
 use Rattle.machine.specs.Machine.{Machine, Outcome, Call, box_limits, plan_fits, run}
 use Rattle.machine.specs.State.{Cells, code_of}
-use Rattle.population.specs.declared.Settled.{Settled}
+use Rattle.population.specs.declared.Counts.{Counts}
 use Rattle.population.specs.Lent.{Did}
 use Rattle.promise.specs.Replay.{call_at, calls_in}
 use Rattle.playback.specs.Running.{Memory, machine_in, Leaves, PlayedAll}
 use Rattle.playback.proofs.Unfit.{unfit, unfit_kept, unfit_after, unfit_through}
-use Rattle.playback.proofs.Leaves.{with_cells, did_leaves}
+use Rattle.playback.proofs.Leaves.{memory_at, did_leaves}
 use Rattle.memory.specs.Memory.{Answers, Runs}
 
 -- ---- the row
@@ -63,9 +64,9 @@ module _ (row : List ℕ) where
 -- ---- one call
 
 -- As the code meets it: q is the answer as a number.
-pub answered : (next live : ℕ) (c : Cells) (r : Settled) (d : Cells) (row : List ℕ) (call : Call) (q : ℕ) → q ≡ code_of r.answer
-    → Did (plan_for row) next live c call r d → Answers (plan_of_row row) call (with_cells next live c) q (with_cells r.next r.live d)
+pub answered : (n : Counts) (c : Cells) (a : Answer) (n' : Counts) (d : Cells) (row : List ℕ) (call : Call) (q : ℕ) → q ≡ code_of a
+    → Did (plan_for row) n c call a n' d → Answers (plan_of_row row) call (memory_at n c) q (memory_at n' d)
 unfolding Answers machine_in
-answered next live c r d row call q eq w =
-    answers_row row call (with_cells next live c) (with_cells r.next r.live d) q
-    (eq ∙ ap (λ (o : Outcome). code_of o.answer) w.means, did_leaves next live c r d (plan_for row) call w)
+answered n c a n' d row call q eq w =
+    answers_row row call (memory_at n c) (memory_at n' d) q
+    (eq ∙ ap (λ (o : Outcome). code_of o.answer) w.means, did_leaves n c n' d (plan_for row) call a w)

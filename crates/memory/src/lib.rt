@@ -9,6 +9,7 @@ ghost use Rattle.memory.specs.Memory.{held, Answers, Runs};
 
 use dispatch::Call;
 use planrow::WORDS;
+use population::Counts;
 
 // One call on a plan's row and the lent state. The call is three numbers, as a program in another language gives it.
 pub fn call(
@@ -26,11 +27,11 @@ pub fn call(
         let k = held place.new serials.new templates.new labels.new tags.new in
         Answers (plan_of_row row.now) (call_of kind x y) h result k }
 {
-    let [next, live] = *place;
+    let mut counts = Counts::from(*place);
     let call = Call::from([kind, x, y]);
-    let r = dispatch::run_call(row, next, live, serials, templates, labels, tags, call);
-    *place = [r.next, r.live];
-    running::code_of(r.answer) as u32
+    let answer = dispatch::run_call(row, &mut counts, serials, templates, labels, tags, call);
+    *place = counts.into();
+    u8::from(answer) as u32
 }
 
 // A list of calls, three words each; as many as there are words and places for.
@@ -48,10 +49,17 @@ pub fn run(
         let k = held place.new serials.new templates.new labels.new tags.new in
         Runs (plan_of_row row.now) calls.now h answers.old result k answers.new }
 {
-    let [next, live] = *place;
-    let ran = running::run_calls(
-        row, next, live, serials, templates, labels, tags, calls, answers,
+    let mut counts = Counts::from(*place);
+    let count = running::run_calls(
+        row,
+        &mut counts,
+        serials,
+        templates,
+        labels,
+        tags,
+        calls,
+        answers,
     );
-    *place = [ran.next, ran.live];
-    ran.count
+    *place = counts.into();
+    count
 }

@@ -6,36 +6,26 @@ use Rattle.machine.specs.Machine.{send, Outcome, box_limits, run}
 use Rattle.machine.specs.State.{Cells, cells_of, machine_of, outcome_of, unless_done}
 use Rattle.machine.proofs.Outcomes.{unless_so}
 use Rattle.machine.proofs.Told.{send_stays}
-use Rattle.population.specs.declared.Settled.{Settled}
-use Rattle.population.specs.Lent.{Same}
+use Rattle.population.specs.declared.Counts.{Counts}
+use Rattle.population.specs.Lent.{counts, Same}
 
--- The state with other figures and cells.
-abbrev pub rebuilt : State → ℕ → ℕ → Cells → State
-rebuilt s next live d = record {
+-- The state with other counts and cells.
+abbrev pub rebuilt : State → Counts → Cells → State
+rebuilt s n d = record {
   plan = s.plan;
-  next = next;
-  live = live;
+  next = n.next;
+  live = n.live;
   serials = d.serials;
   templates = d.templates;
   labels = d.labels;
   tags = d.tags;
 }
 
-same_state : (s : State) (r : Settled) (d : Cells) → Same s.next s.live (cells_of s) r d → rebuilt s r.next r.live d ≡ s
-same_state s r d w = λ i.
-    record {
-      plan = s.plan;
-      next = w.same_next i;
-      live = w.same_live i;
-      serials = (w.same_cells i).serials;
-      templates = (w.same_cells i).templates;
-      labels = (w.same_cells i).labels;
-      tags = (w.same_cells i).tags;
-    }
+same_state : (s : State) (n : Counts) (d : Cells) → Same (counts s.next s.live) (cells_of s) n d → rebuilt s n d ≡ s
+same_state s n d w = λ i. rebuilt s (w.same_counts i) (w.same_cells i)
 
-pub kept : (s : State) (r : Settled) (d : Cells) → unless_done r.answer (Same s.next s.live (cells_of s) r d)
-    → unless_done r.answer (rebuilt s r.next r.live d ≡ s)
-kept s r d w = unless_so r.answer (Same s.next s.live (cells_of s) r d) (rebuilt s r.next r.live d ≡ s) (same_state s r d) w
+pub kept : (s : State) (a : Answer) (n : Counts) (d : Cells) → unless_done a (Same (counts s.next s.live) (cells_of s) n d) → unless_done a (rebuilt s n d ≡ s)
+kept s a n d w = unless_so a (Same (counts s.next s.live) (cells_of s) n d) (rebuilt s n d ≡ s) (same_state s n d) w
 
 -- A send hands back the state that it got, whatever it answers.
 pub sent_kept : (s : State) (r : Answered) (from to : ℕ) → outcome_of r ≡ run box_limits (machine_of s) (send from to) → unless_done r.answer (r.state ≡ s) → r.state ≡ s

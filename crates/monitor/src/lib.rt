@@ -10,41 +10,29 @@ ghost use Rattle.dispatch.specs.Calls.{meant};
 
 use dispatch::Call;
 use machine::{Answered, State};
+use population::Counts;
 
-// One call on a state by value: its arrays are lent, and the state is built again.
-fn call(state: State, call: Call) -> Answered
+// One call on a state by value: its arrays are lent.
+fn call(mut state: State, call: Call) -> Answered
     ensures { (outcome_of result ≡ run box_limits (machine_of state) (meant call)) × unless_done result.answer (result.state ≡ state) }
 {
-    let plan = state.plan;
-    let row = encoding::row_of(plan);
-    let mut serials = state.serials;
-    let mut templates = state.templates;
-    let mut labels = state.labels;
-    let mut tags = state.tags;
-    let r = dispatch::run_call(
+    let row = encoding::row_of(state.plan);
+    let mut counts = Counts {
+        next: state.next,
+        live: state.live,
+    };
+    let answer = dispatch::run_call(
         &row,
-        state.next,
-        state.live,
-        &mut serials,
-        &mut templates,
-        &mut labels,
-        &mut tags,
+        &mut counts,
+        &mut state.serials,
+        &mut state.templates,
+        &mut state.labels,
+        &mut state.tags,
         call,
     );
-    let after = State {
-        plan,
-        next: r.next,
-        live: r.live,
-        serials,
-        templates,
-        labels,
-        tags,
-    };
-    let answer = r.answer;
-    Answered {
-        answer,
-        state: after,
-    }
+    state.next = counts.next;
+    state.live = counts.live;
+    Answered { state, answer }
 }
 
 // Document 01, Step.

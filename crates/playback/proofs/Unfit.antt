@@ -8,6 +8,7 @@ use Rattle.machine.specs.declared.Answer.TheVariants.{Refused}
 use Rattle.machine.specs.Machine.{Outcome, Call, box_limits, plan_fits, run}
 use Rattle.machine.specs.State.{unless_done}
 use Rattle.machine.proofs.Outcomes.{outcome}
+use Rattle.population.specs.Lent.{counts}
 use Rattle.population.proofs.Lent.{run_unfit}
 use Rattle.promise.specs.Replay.{machine_after}
 use Rattle.playback.specs.Playback.{Through, begun, onward}
@@ -16,7 +17,7 @@ use Rattle.playback.specs.Running.{Memory, machine_in, Leaves}
 module _ (plan : Plan) (f : plan_fits plan ≡ false) where
   pub unfit : (m : Memory) (call : Call) → run box_limits (machine_in plan m) call ≡ outcome (Refused 20) (machine_in plan m)
   unfolding machine_in
-  unfit m call = run_unfit plan m.next m.live m.cells call f
+  unfit m call = run_unfit plan (counts m.next m.live) m.cells call f
 
   pub unfit_kept : (m : Memory) (call : Call) (P : Type 0) → unless_done (run box_limits (machine_in plan m) call).answer P → P
   unfolding unless_done

@@ -1,9 +1,8 @@
 -- The calls on lent arrays, up to where each call's own refusals begin: 20, and where a serial is found or is not.
--- As the code meets it: g is the answer of `is_well_formed`, k the place that `find` answers.
+-- As the code meets it: k is the place that `find` answers.
 use Prim.Native.Nat.{ℕ, ◌≤◌, ◌<◌}
 use mathlib.Core.Path.{◌≡◌, refl, sym, ap, ◌∙◌, subst}
 use mathlib.Core.Bool.{Bool, true, false, not}
-use mathlib.Core.List.{List}
 use mathlib.Core.Option.{none, some}
 use native.Mathlib.Omega.{arith}
 use lib.Dec.{eqb}
@@ -14,7 +13,6 @@ use Rattle.std.proofs.Common.{slice_range}
 use Rattle.lists.proofs.Lowest.{lowest-holds, lowest_ext}
 use Rattle.lists.proofs.Parts.{first_length, first_at}
 use Rattle.plan.specs.declared.Plan.{Plan}
-use Rattle.planrow.specs.Row.{identifiers_in}
 use Rattle.planrow.specs.Lookup.{plan_for}
 use Rattle.ranges.proofs.Ranges.{first_rises}
 use Rattle.machine.specs.declared.Answer.{Answer}
@@ -22,10 +20,10 @@ use Rattle.machine.specs.declared.Answer.TheVariants.{Done, Delivered, Held, Ref
 use Rattle.machine.specs.Machine.{Call, step, send, raise, lower, box_limits, plan_fits, well_formed, find, settled, if_done, answer_to, run}
 use Rattle.machine.specs.State.{Cells, placed, processes_of, machine_from, unless_done}
 use Rattle.machine.proofs.Places.{find_live, find_gone, places_differ}
-use Rattle.population.specs.declared.Settled.{Settled}
-use Rattle.population.specs.Lent.{settles, outcome_from, Same, LabelsAlone, unless_step, Did, Tried}
+use Rattle.population.specs.declared.Counts.{Counts}
+use Rattle.population.specs.Lent.{counts, machine_at, outcome_from, Same, LabelsAlone, unless_step, Did, Tried}
 use Rattle.population.specs.Refusals.{Among}
-use Rattle.population.proofs.Fits.{formed_rising, formed_live, formed_serials, formed_few}
+use Rattle.population.proofs.Fits.{formed_rising, formed_live, formed_serials}
 
 -- ---- the ways out of a call
 
@@ -37,49 +35,48 @@ unless_step_lem (send from to) P p = p
 unless_step_lem (raise s i) P p = p
 unless_step_lem (lower s i) P p = p
 
-module _ (plan : Plan) (next live : ℕ) (c : Cells) where
+module _ (plan : Plan) (n : Counts) (c : Cells) where
   -- Whatever was answered, nothing was touched.
-  pub untouched : (a : Answer) → unless_done a (Same next live c (settles a next live) c)
+  pub untouched : (a : Answer) → unless_done a (Same n c n c)
   unfolding unless_done
   untouched Done = Prim.tt
-  untouched Delivered = record { same_next = refl; same_live = refl; same_cells = refl }
-  untouched Held = record { same_next = refl; same_live = refl; same_cells = refl }
-  untouched (Refused n) = record { same_next = refl; same_live = refl; same_cells = refl }
+  untouched Delivered = record { same_counts = refl; same_cells = refl }
+  untouched Held = record { same_counts = refl; same_cells = refl }
+  untouched (Refused k) = record { same_counts = refl; same_cells = refl }
 
   -- Nothing was touched, so nothing but labels was.
-  untouched_others : (call : Call) (a : Answer) → unless_step call (LabelsAlone next live c (settles a next live) c)
-  untouched_others call a = unless_step_lem call _ (record { next_stays = refl; live_stays = refl; serials_stay = refl; templates_stay = refl; tags_stay = refl })
+  alone_none : LabelsAlone n c n c
+  alone_none = record { counts_stay = refl; serials_stay = refl; templates_stay = refl; tags_stay = refl }
 
   -- A call that left all as it was.
-  pub tried_same : (call : Call) (a : Answer) (r : Settled) → r ≡ settles a next live
-      → (well_formed box_limits (machine_from plan next live c) ≡ true → outcome_from plan (settles a next live) c ≡ answer_to box_limits (machine_from plan next live c) call)
-      → Tried plan next live c call r c
-  tried_same call a r e w = subst (λ (r : Settled). Tried plan next live c call r c) (sym e) (record { means = w; same = untouched a; others = untouched_others call a })
+  pub tried_same : (call : Call) (a : Answer)
+      → (well_formed box_limits (machine_at plan n c) ≡ true → outcome_from plan a n c ≡ answer_to box_limits (machine_at plan n c) call)
+      → Tried plan n c call a n c
+  tried_same call a w = record { means = w; same = untouched a; others = unless_step_lem call _ alone_none }
 
--- A row of more than 32 identifiers means a bad state.
-pub tried_wide : (row : List ℕ) (next live : ℕ) (c : Cells) (call : Call) (r : Settled) (k : ℕ) → k ≡ identifiers_in row → 32 < k → r ≡ settles (Refused 20) next live
-    → Tried (plan_for row) next live c call r c
-tried_wide row next live c call r k ek h e =
-    tried_same (plan_for row) next live c call (Refused 20) r e (λ well. absurd (formed_few row next live c well k ek h))
+-- What is so of any next serial is so of any counts with so many live.
+pub of_live : (P : Counts → Type 0) (live : ℕ) → ((next : ℕ) → P (counts next live)) → (n : Counts) → n.live ≡ live → P n
+of_live P live f n e = subst (λ (l : ℕ). P (counts n.next l)) (sym e) (f n.next)
 
 -- ---- 20
 
-module _ (plan : Plan) (next live : ℕ) (c : Cells) (call : Call) (r : Settled) (g : Bool) (eg : g ≡ well_formed box_limits (machine_from plan next live c)) where
-  pub asked_bad : not g ≡ true → r ≡ settles (Refused 20) next live → Did plan next live c call r c
+-- g is the answer of `is_well_formed`.
+module _ (plan : Plan) (n : Counts) (c : Cells) (call : Call) (g : Bool) (eg : g ≡ well_formed box_limits (machine_at plan n c)) where
+  pub asked_bad : not g ≡ true → (a : Answer) → a ≡ Refused 20 → Did plan n c call a n c
   unfolding run settled if_done
-  asked_bad h e =
-      subst (λ (r : Settled). Did plan next live c call r c) (sym e)
-      (record { means = sym (rw (sym eg ∙ not-true g h)); same = untouched plan next live c (Refused 20); others = untouched_others plan next live c call (Refused 20) })
+  asked_bad h a e =
+      subst (λ (a : Answer). Did plan n c call a n c) (sym e)
+      (record { means = sym (rw (sym eg ∙ not-true g h)); same = untouched plan n c (Refused 20); others = unless_step_lem call _ (alone_none plan n c) })
 
-  pub asked : not g ≡ false → (d : Cells) → Tried plan next live c call r d → Did plan next live c call r d
+  pub asked : not g ≡ false → (a : Answer) (n' : Counts) (d : Cells) → Tried plan n c call a n' d → Did plan n c call a n' d
   unfolding run
-  asked h d w = record { means = rw (sym eg ∙ not-false g h) (w.means (sym eg ∙ not-false g h)); same = w.same; others = w.others }
+  asked h a n' d w = record { means = rw (sym eg ∙ not-false g h) (w.means (sym eg ∙ not-false g h)); same = w.same; others = w.others }
 
 -- A plan that does not fit makes every call 20.
-pub run_unfit : (plan : Plan) (next live : ℕ) (c : Cells) (call : Call) → plan_fits plan ≡ false
-    → run box_limits (machine_from plan next live c) call ≡ outcome_from plan (settles (Refused 20) next live) c
+pub run_unfit : (plan : Plan) (n : Counts) (c : Cells) (call : Call) → plan_fits plan ≡ false
+    → run box_limits (machine_at plan n c) call ≡ outcome_from plan (Refused 20) n c
 unfolding run well_formed settled if_done machine_from
-run_unfit plan next live c call f = rw f
+run_unfit plan n c call f = rw f
 
 -- ---- where a serial stands
 

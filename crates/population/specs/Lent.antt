@@ -1,33 +1,42 @@
 -- What a call on lent arrays promises: the answer and what the arrays mean at its end are the machine's outcome; unless it
--- is done, next, live and the arrays are literally as they were, and unless it is a step, all but the labels are.
+-- is done, the counts and the arrays are literally as they were, and unless it is a step, all but the labels are.
 -- Not to be believed: the contracts of the operations by value do not name it.
-use Rattle.std.specs.Prelude.{ℕ, ◌≡◌, true}
+use Rattle.std.specs.Prelude.{ℕ, ◌≡◌, true, List, [], ◌∷◌, get_or}
 use Rattle.plan.specs.declared.Plan.{Plan}
 use Rattle.machine.specs.declared.Answer.{Answer}
-use Rattle.machine.specs.Machine.{Outcome, Call, step, send, raise, lower, box_limits, well_formed, answer_to, run}
+use Rattle.machine.specs.Machine.{Outcome, Machine, Call, step, send, raise, lower, box_limits, well_formed, answer_to, run}
 use Rattle.machine.specs.State.{Cells, machine_from, unless_done}
-use Rattle.population.specs.declared.Settled.{Settled}
+use Rattle.population.specs.declared.Counts.{Counts}
 
-abbrev pub settles : Answer → ℕ → ℕ → Settled
-settles answer next live = record { answer = answer; next = next; live = live }
+abbrev pub counts : ℕ → ℕ → Counts
+counts next live = record { next = next; live = live }
 
--- An answer beside the plan, the next serial, the number of live processes and the arrays.
-abbrev pub outcome_from : Plan → Settled → Cells → Outcome
-outcome_from plan r cells = record { answer = r.answer; machine = machine_from plan r.next r.live cells }
+-- The two as one place.
+abbrev pub counted : List ℕ → Counts
+counted place = counts (get_or place 0 0) (get_or place 1 0)
+
+abbrev pub place_of : Counts → List ℕ
+place_of n = n.next ∷ n.live ∷ []
+
+-- The machine that a plan, the counts and the arrays stand for,
+abbrev pub machine_at : Plan → Counts → Cells → Machine
+machine_at plan n c = machine_from plan n.next n.live c
+
+-- and an answer beside it.
+abbrev pub outcome_from : Plan → Answer → Counts → Cells → Outcome
+outcome_from plan answer n c = record { answer = answer; machine = machine_at plan n c }
 
 -- Nothing was touched.
-pub record Same (next live : ℕ) (cells : Cells) (r : Settled) (cells' : Cells) : Type 0 where
-  pub same_next : r.next ≡ next
-  pub same_live : r.live ≡ live
-  pub same_cells : cells' ≡ cells
+pub record Same (n : Counts) (c : Cells) (n' : Counts) (c' : Cells) : Type 0 where
+  pub same_counts : n' ≡ n
+  pub same_cells : c' ≡ c
 
 -- Nothing but labels was touched.
-pub record LabelsAlone (next live : ℕ) (cells : Cells) (r : Settled) (cells' : Cells) : Type 0 where
-  pub next_stays : r.next ≡ next
-  pub live_stays : r.live ≡ live
-  pub serials_stay : cells'.serials ≡ cells.serials
-  pub templates_stay : cells'.templates ≡ cells.templates
-  pub tags_stay : cells'.tags ≡ cells.tags
+pub record LabelsAlone (n : Counts) (c : Cells) (n' : Counts) (c' : Cells) : Type 0 where
+  pub counts_stay : n' ≡ n
+  pub serials_stay : c'.serials ≡ c.serials
+  pub templates_stay : c'.templates ≡ c.templates
+  pub tags_stay : c'.tags ≡ c.tags
 
 -- P holds unless the call is a step: only a step changes more than a label.
 unfoldable pub unless_step : Call → Type 0 → Type 0
@@ -36,15 +45,15 @@ unless_step (send from to) P = P
 unless_step (raise s i) P = P
 unless_step (lower s i) P = P
 
--- A call that met next, live and cells left r and cells', as the machine says.
-pub record Did (plan : Plan) (next live : ℕ) (cells : Cells) (call : Call) (r : Settled) (cells' : Cells) : Type 0 where
-  pub means : outcome_from plan r cells' ≡ run box_limits (machine_from plan next live cells) call
-  pub same : unless_done r.answer (Same next live cells r cells')
-  pub others : unless_step call (LabelsAlone next live cells r cells')
+-- A call that met the counts n and the arrays c answered so and left n' and c', as the machine says.
+pub record Did (plan : Plan) (n : Counts) (c : Cells) (call : Call) (answer : Answer) (n' : Counts) (c' : Cells) : Type 0 where
+  pub means : outcome_from plan answer n' c' ≡ run box_limits (machine_at plan n c) call
+  pub same : unless_done answer (Same n c n' c')
+  pub others : unless_step call (LabelsAlone n c n' c')
 
 -- The same below refusal 20: of a state that is not bad.
-pub record Tried (plan : Plan) (next live : ℕ) (cells : Cells) (call : Call) (r : Settled) (cells' : Cells) : Type 0 where
-  pub means : well_formed box_limits (machine_from plan next live cells) ≡ true
-      → outcome_from plan r cells' ≡ answer_to box_limits (machine_from plan next live cells) call
-  pub same : unless_done r.answer (Same next live cells r cells')
-  pub others : unless_step call (LabelsAlone next live cells r cells')
+pub record Tried (plan : Plan) (n : Counts) (c : Cells) (call : Call) (answer : Answer) (n' : Counts) (c' : Cells) : Type 0 where
+  pub means : well_formed box_limits (machine_at plan n c) ≡ true
+      → outcome_from plan answer n' c' ≡ answer_to box_limits (machine_at plan n c) call
+  pub same : unless_done answer (Same n c n' c')
+  pub others : unless_step call (LabelsAlone n c n' c')

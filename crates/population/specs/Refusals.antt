@@ -7,8 +7,6 @@ use Rattle.machine.specs.declared.Answer.TheVariants.{Done, Refused}
 use Rattle.arrays.specs.Places.{Located}
 use Rattle.population.specs.declared.Refusal.{Refusal}
 use Rattle.population.specs.declared.Refusal.TheVariants.{BadState, NotLive, NoBranch, NoRoom, NoSerial, BadLabel, ToItself, NoIdentifier, NotAtRisk, NotAllowed}
-use Rattle.population.specs.declared.Settled.{Settled}
-use Rattle.population.specs.Lent.{settles}
 
 abbrev pub number_of : Refusal → ℕ
 number_of BadState = 20
@@ -30,15 +28,10 @@ abbrev pub done_or : {A : Type 0} → Result A Refusal → Answer
 done_or (Ok v) = Done
 done_or (Err refusal) = refused refusal
 
--- of what has an answer of its own then,
+-- and of what has an answer of its own then.
 abbrev pub answer_or : Result Answer Refusal → Answer
 answer_or (Ok answer) = answer
 answer_or (Err refusal) = refused refusal
-
--- and what a call leaves: a refused one what it met.
-abbrev pub settled_or : ℕ → ℕ → Result Settled Refusal → Settled
-settled_or next live (Ok settled) = settled
-settled_or next live (Err refusal) = settles (refused refusal) next live
 
 -- Where a serial stands among the first n, if so many are there and rise, and n where none of them has it.
 abbrev pub Among : List ℕ → ℕ → ℕ → ℕ → Type 0

@@ -1,12 +1,11 @@
-// What the calls on lent arrays share: the test of refusal 20, and what a call leaves beside the arrays.
+// What the calls on lent arrays share: the counts beside the arrays, and the test of refusal 20.
 #![tactic(auto)]
 
 ghost use Rattle.std.specs.Prelude.{◌≡◌};
 ghost use Rattle.planrow.specs.Lookup.{plan_for};
 ghost use Rattle.machine.specs.Machine.{box_limits, well_formed};
-ghost use Rattle.machine.specs.State.{machine_from};
 ghost use Rattle.population.specs.Arrays.{cells, parts_fit};
-ghost use Rattle.population.specs.Lent.{settles};
+ghost use Rattle.population.specs.Lent.{counted, place_of, machine_at};
 ghost use Rattle.population.specs.Refusals.{number_of, refused, Found};
 
 use machine::Answer;
@@ -72,18 +71,29 @@ pub struct Child {
     pub template: Template,
 }
 
-// What a call leaves beside the arrays.
+// What a call changes beside the arrays: the next serial, and how many live.
 #[derive(Clone, Copy)]
-pub struct Settled {
-    pub answer: Answer,
+pub struct Counts {
     pub next: u32,
     pub live: u32,
 }
 
-pub fn settle(answer: Answer, next: u32, live: u32) -> Settled
-    ensures { result ≡ settles answer next live }
-{
-    Settled { answer, next, live }
+// The C interface lends them as one place.
+impl From<[u32; 2]> for Counts {
+    ghost from_gives = { λ place counts. counts ≡ counted place };
+
+    fn from(place: [u32; 2]) -> Counts {
+        let [next, live] = place;
+        Counts { next, live }
+    }
+}
+
+impl From<Counts> for [u32; 2] {
+    ghost from_gives = { λ counts place. place ≡ place_of counts };
+
+    fn from(counts: Counts) -> [u32; 2] {
+        [counts.next, counts.live]
+    }
 }
 
 // The processes' part of refusal 20, of parts of any length: N templates, M identifiers.
@@ -92,16 +102,16 @@ pub fn settle(answer: Answer, next: u32, live: u32) -> Settled
 pub fn are_fitting(
     count: u32,
     m: u32,
-    next: u32,
-    live: u32,
+    counts: Counts,
     serials: &[u32],
     templates: &[u32],
     labels: &[u32],
     tags: &[u32],
 ) -> bool
     ensures { let c = cells serials.now templates.now labels.now tags.now in
-        result ≡ parts_fit count m next live c }
+        result ≡ parts_fit count m counts.next counts.live c }
 {
+    let Counts { next, live } = counts;
     let n = live as usize;
     let top = mask::full_mask(m);
     let used = tagrows::row_start(live, m);
@@ -123,20 +133,19 @@ pub fn are_fitting(
 // Whether what these stand for is no bad state: refusal 20, on the whole of it.
 pub fn is_well_formed(
     row: &[u32; WORDS],
-    next: u32,
-    live: u32,
+    counts: Counts,
     serials: &[u32; 128],
     templates: &[u32; 128],
     labels: &[u32; 128],
     tags: &[u32; 4096],
 ) -> bool
     ensures { let c = cells serials.now templates.now labels.now tags.now in
-        result ≡ well_formed box_limits (machine_from (plan_for row.now) next live c) }
+        result ≡ well_formed box_limits (machine_at (plan_for row.now) counts c) }
 {
     if !planfit::is_fitting(row) {
         return false;
     }
     let count = planrow::template_count(row);
     let m = planrow::identifier_count(row);
-    are_fitting(count, m, next, live, serials, templates, labels, tags)
+    are_fitting(count, m, counts, serials, templates, labels, tags)
 }

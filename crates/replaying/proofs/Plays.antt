@@ -13,6 +13,7 @@ use Rattle.machine.specs.declared.State.{State}
 use Rattle.machine.specs.Machine.{Machine, Outcome, Call, box_limits, plan_fits, run}
 use Rattle.machine.specs.State.{processes_of, machine_from, machine_of}
 use Rattle.machine.proofs.Alike.{Alike, on_plan, outcome_on, run_alike}
+use Rattle.population.specs.Lent.{counts}
 use Rattle.monitor.proofs.Kept.{rebuilt}
 use Rattle.playback.specs.Playback.{Does}
 use Rattle.playback.specs.Running.{Memory, memory_of, machine_in, Leaves, PlayedAll}
@@ -64,11 +65,11 @@ module _ (plan : Plan) where
 
 pub plays_on : (s : State) (words before row : List ℕ) → row ≡ row_of_plan s.plan → (n : ℕ) (left : Memory) (after : List ℕ)
     → PlayedAll (machine_in (plan_for row)) (Leaves (plan_for row)) words (memory_of s) before n left after
-    → PlayedAll machine_of (Does machine_of) words s before n (rebuilt s left.next left.live left.cells) after
+    → PlayedAll machine_of (Does machine_of) words s before n (rebuilt s (counts left.next left.live) left.cells) after
 unfolding machine_in machine_of
 plays_on s words before row er n left after p =
     let met = memory_of s in
     let plan = plan_for (row_of_plan s.plan) in
-    played_along (machine_in plan) (Leaves plan) (λ call m m' w. w.does) machine_of (λ m. rebuilt s m.next m.live m.cells)
+    played_along (machine_in plan) (Leaves plan) (λ call m m' w. w.does) machine_of (λ m. rebuilt s (counts m.next m.live) m.cells)
     (agree s.plan).answers (agree s.plan).leaves words met before n left after
     (subst (λ (row : List ℕ). PlayedAll (machine_in (plan_for row)) (Leaves (plan_for row)) words met before n left after) er p)

@@ -5,7 +5,8 @@ ghost use Rattle.machine.specs.State.{machine_of};
 ghost use Rattle.playback.specs.Playback.{Does, Replays};
 ghost use Rattle.playback.specs.Running.{PlayedAll};
 
-use machine::State;
+use machine::{Started, State};
+use population::Counts;
 use rules::Verdict;
 
 // What a list of calls leaves of a state, and how many calls were played. The state comes first, as in machine::Answered.
@@ -15,40 +16,28 @@ pub struct Ran {
     pub count: usize,
 }
 
-// The calls in order on the state, the answers written to the row: its arrays are lent, and the state is built again.
-pub fn play(state: State, calls: &[u32], answers: &mut [u8]) -> Ran
+// The calls in order on the state, whose arrays are lent; the answers are written to the row.
+pub fn play(mut state: State, calls: &[u32], answers: &mut [u8]) -> Ran
     ensures { PlayedAll machine_of (Does machine_of) calls.now state answers.old result.count result.state answers.new }
 {
-    let plan = state.plan;
-    let row = encoding::row_of(plan);
-    let mut serials = state.serials;
-    let mut templates = state.templates;
-    let mut labels = state.labels;
-    let mut tags = state.tags;
-    let r = running::run_calls(
+    let row = encoding::row_of(state.plan);
+    let mut counts = Counts {
+        next: state.next,
+        live: state.live,
+    };
+    let count = running::run_calls(
         &row,
-        state.next,
-        state.live,
-        &mut serials,
-        &mut templates,
-        &mut labels,
-        &mut tags,
+        &mut counts,
+        &mut state.serials,
+        &mut state.templates,
+        &mut state.labels,
+        &mut state.tags,
         calls,
         answers,
     );
-    let after = State {
-        plan,
-        next: r.next,
-        live: r.live,
-        serials,
-        templates,
-        labels,
-        tags,
-    };
-    Ran {
-        state: after,
-        count: r.count,
-    }
+    state.next = counts.next;
+    state.live = counts.live;
+    Ran { state, count }
 }
 
 // What replay hands back: the judge's verdict, how many calls were played, and the state after them. A struct and no Result:
@@ -64,9 +53,7 @@ pub struct Replayed {
 pub fn replay(plan: &[u8], policy: &[u8], calls: &[u32], answers: &mut [u8]) -> Replayed
     ensures { Replays plan.now policy.now calls.now answers.old result.verdict result.count result.state answers.new }
 {
-    let started = starting::start(plan, policy);
-    let verdict = started.verdict;
-    let state = started.state;
+    let Started { verdict, state } = starting::start(plan, policy);
     if !rules::is_accepted(verdict) {
         return Replayed {
             verdict,
@@ -74,10 +61,10 @@ pub fn replay(plan: &[u8], policy: &[u8], calls: &[u32], answers: &mut [u8]) -> 
             state,
         };
     }
-    let ran = play(state, calls, answers);
+    let Ran { state, count } = play(state, calls, answers);
     Replayed {
         verdict,
-        count: ran.count,
-        state: ran.state,
+        count,
+        state,
     }
 }

@@ -1,6 +1,6 @@
 -- The whole step: the parts are the machine's.
 use Prim.Native.Nat.{ℕ, ◌+◌, ◌-◌, ◌≤◌, ◌<◌}
-use mathlib.Core.Path.{◌≡◌, refl, sym, ap, ap₂, ◌∙◌, subst}
+use mathlib.Core.Path.{◌≡◌, refl, sym, ap, ap₂, ◌∙◌}
 use mathlib.Core.Bool.{Bool, true, not, ◌&&◌}
 use mathlib.Core.List.{List, ◌++◌, map}
 use mathlib.Core.Option.{some}
@@ -21,12 +21,12 @@ use Rattle.machine.specs.Machine.{Machine, step, box_limits, well_formed, remove
 use Rattle.machine.specs.State.{Cells, placed, processes_of, machine_from, unless_done}
 use Rattle.machine.proofs.Outcomes.{settled_refused, settled_done}
 use Rattle.machine.proofs.Places.{remove_at}
-use Rattle.machine.proofs.Templates.{successors_fit, children_fit}
-use Rattle.arrays.specs.Places.{Located}
-use Rattle.population.specs.declared.Settled.{Settled}
+use Rattle.machine.proofs.Templates.{successors_fit, children_fit, plan_few}
+use Rattle.population.specs.Refusals.{Among}
+use Rattle.population.specs.declared.Counts.{Counts}
 use Rattle.population.specs.Arrays.{cells}
-use Rattle.population.specs.Lent.{settles, outcome_from, unless_step, Tried}
-use Rattle.population.proofs.Fits.{length_processes, formed_plan, formed_template, formed_identifiers, formed_few, formed_lookup, looked_at}
+use Rattle.population.specs.Lent.{counts, outcome_from, unless_step, Tried}
+use Rattle.population.proofs.Fits.{length_processes, formed_plan, formed_template, formed_identifiers, formed_lookup, looked_at}
 use Rattle.population.proofs.Lent.{untouched, tried_same, placed_at, found_none, found_some, found_serial, alone}
 use Rattle.population.specs.declared.Child.{Child}
 use Rattle.admission.specs.Admission.{all_fitting, refusal_of}
@@ -63,8 +63,8 @@ module _ (plan : Plan) (next live : ℕ) (c : Cells) (k branch : ℕ) (well : we
   abbrev heirs : List Child
   heirs = map (of_plan plan) templates
 
-  abbrev Stepped : Settled → Cells → Type 0
-  Stepped r d = outcome_from plan r d ≡ step_by box_limits (machine_from plan next live c) s branch (some (placed M c k))
+  abbrev Stepped : Answer → Counts → Cells → Type 0
+  Stepped a n d = outcome_from plan a n d ≡ step_by box_limits (machine_from plan next live c) s branch (some (placed M c k))
 
   module _ (a : Answer) (eq : a ≡ refusal_of M next live (get_or c.labels k 0) (at plan X) branch heirs) where
     answers : step_answer box_limits (machine_from plan next live c) (placed M c k) branch templates ≡ a
@@ -82,11 +82,11 @@ module _ (plan : Plan) (next live : ℕ) (c : Cells) (k branch : ℕ) (well : we
             (refuse_if (not fits) 25
             Done)))
 
-    step_refused : (n : ℕ) → a ≡ Refused n → Stepped (settles (Refused n) next live) c
+    step_refused : (n : ℕ) → a ≡ Refused n → Stepped (Refused n) (counts next live) c
     unfolding step_by machine_from placed
     step_refused n e = sym (settled_refused _ _ _ n (answers ∙ e))
 
-    step_done : (d : Cells) → a ≡ Done → Advanced M next k (live - 1) c heirs d → Stepped (settles Done (next + length heirs) (live - 1 + length heirs)) d
+    step_done : (d : Cells) → a ≡ Done → Advanced M next k (live - 1) c heirs d → Stepped Done (counts (next + length heirs) (live - 1 + length heirs)) d
     unfolding step_by stepped machine_from placed
     step_done d z w =
         (λ i. record { answer = Done; machine = record { plan = plan; next = next + length-map templates (of_plan plan) i; live = processes i } })
@@ -98,13 +98,6 @@ module _ (plan : Plan) (next live : ℕ) (c : Cells) (k branch : ℕ) (well : we
 -- ---- the step as the code meets it, the templates being looked up in the row
 
 module _ (row : List ℕ) (next live : ℕ) (c : Cells) (k branch : ℕ) (h : k < live) (w : ℕ) (ew : w ≡ identifiers_in row) where
-  -- A row of more than 32 identifiers means a bad state.
-  pub place_wide : 32 < w → SteppedAt (plan_for row) next live c k branch (settles (Refused 20) next live) c
-  place_wide l = record {
-    means = λ well. absurd (formed_few row next live c well w ew l);
-    same = untouched (plan_for row) next live c (Refused 20);
-  }
-
   module _ (t : Template) (looked : t ≡ template_at row (get_or c.templates k 0)) (ys : List ℕ) (ey : ys ≡ children t.form branch)
       (born : List Child) (eb : born ≡ map (of_row row) ys)
       (a : Answer) (eq : a ≡ refusal_of w next live (get_or c.labels k 0) t branch born) where
@@ -120,6 +113,9 @@ module _ (row : List ℕ) (next live : ℕ) (c : Cells) (k branch : ℕ) (h : k 
       M-is : w ≡ (plan_for row).identifiers
       M-is = ew ∙ sym (formed_identifiers row next live c well)
 
+      few : w ≤ 32
+      few = rw (M-is) (plan_few (plan_for row) (formed_plan (plan_for row) next live c well))
+
       heirs-are : born ≡ heirs (plan_for row) next live c k branch well h
       heirs-are =
           eb ∙ ap (map (of_row row)) (ey ∙ ap (λ (t : Template). children t.form branch) found)
@@ -130,27 +126,26 @@ module _ (row : List ℕ) (next live : ℕ) (c : Cells) (k branch : ℕ) (h : k 
           eq ∙ ap (λ (M : ℕ). refusal_of M next live (get_or c.labels k 0) t branch born) M-is
           ∙ ap₂ (λ (t : Template) (born : List Child). refusal_of (plan_for row).identifiers next live (get_or c.labels k 0) t branch born) found heirs-are
 
-    pub place_refused : (n : ℕ) → a ≡ Refused n → SteppedAt (plan_for row) next live c k branch (settles (Refused n) next live) c
+    pub place_refused : (n : ℕ) → a ≡ Refused n → SteppedAt (plan_for row) (counts next live) c k branch (Refused n) (counts next live) c
     place_refused n e = record {
       means = λ well. step_refused (plan_for row) next live c k branch well h a (answered well) n e;
-      same = untouched (plan_for row) next live c (Refused n);
+      same = untouched (plan_for row) (counts next live) c (Refused n);
     }
 
-    pub place_done : (r : Settled) (d : Cells) (count : ℕ) → a ≡ Done → count ≡ length born → Room w next k (live - 1) (length born)
+    pub place_done : (d : Cells) (count : ℕ) → a ≡ Done → count ≡ length born → (w ≤ 32 → Room w next k (live - 1) (length born))
         → (Room w next k (live - 1) (length born) → Advanced w next k (live - 1) c born d)
-        → r ≡ settles Done (next + count) (live - 1 + count) → SteppedAt (plan_for row) next live c k branch r d
+        → SteppedAt (plan_for row) (counts next live) c k branch Done (counts (next + count) (live - 1 + count)) d
     unfolding unless_done
-    place_done r d count z ec room v er =
-        subst (λ (r : Settled). SteppedAt (plan_for row) next live c k branch r d) (sym (er ∙ ap (λ (n : ℕ). settles Done (next + n) (live - 1 + n)) ec)) (record {
-          means = λ well. rw (heirs-are well)
-              (step_done (plan_for row) next live c k branch well h a (answered well) d z
-              (rw (sym (heirs-are well), sym (M-is well)) (v room)));
-          same = Prim.tt;
-        })
+    place_done d count z ec room v = rw ec (record {
+      means = λ well. rw (heirs-are well)
+          (step_done (plan_for row) next live c k branch well h a (answered well) d z
+          (rw (sym (heirs-are well), sym (M-is well)) (v (room (few well)))));
+      same = Prim.tt;
+    })
 
 -- ---- 21 and the rest
 
-module _ (row : List ℕ) (next live : ℕ) (xs ts ls gs : List ℕ) (serial branch : ℕ) (sized : length xs ≡ 128) (k : ℕ) (at-k : Located xs 0 live serial k) where
+module _ (row : List ℕ) (next live : ℕ) (xs ts ls gs : List ℕ) (serial branch : ℕ) (sized : length xs ≡ 128) (k : ℕ) (at-k : Among xs live serial k) where
   abbrev c : Cells
   c = cells xs ts ls gs
 
@@ -160,15 +155,16 @@ module _ (row : List ℕ) (next live : ℕ) (xs ts ls gs : List ℕ) (serial bra
   place : well_formed box_limits m ≡ true → k ≡ lowest live (λ i. eqb (get_or xs i 0) serial)
   place well = placed_at (plan_for row) next live c well serial k sized at-k
 
-  pub step_gone : live ≤ k → Tried (plan_for row) next live (cells xs ts ls gs) (step serial branch) (settles (Refused 21) next live) (cells xs ts ls gs)
+  pub step_gone : live ≤ k → Tried (plan_for row) (counts next live) (cells xs ts ls gs) (step serial branch) (Refused 21) (counts next live) (cells xs ts ls gs)
   unfolding answer_to step_by machine_from
   step_gone l =
-      tried_same (plan_for row) next live c (step serial branch) (Refused 21) _ refl (λ well.
+      tried_same (plan_for row) (counts next live) c (step serial branch) (Refused 21) (λ well.
       sym (ap (step_by box_limits m serial branch) (found_none (plan_for row).identifiers live c serial k (place well) (omega arith)) ∙ settled_refused _ _ _ 21 refl))
 
-  pub step_live : (r : Settled) (d : Cells) → k < live → SteppedAt (plan_for row) next live (cells xs ts ls gs) k branch r d → Tried (plan_for row) next live (cells xs ts ls gs) (step serial branch) r d
+  pub step_live : (a : Answer) (n : Counts) (d : Cells) → k < live → SteppedAt (plan_for row) (counts next live) (cells xs ts ls gs) k branch a n d
+      → Tried (plan_for row) (counts next live) (cells xs ts ls gs) (step serial branch) a n d
   unfolding answer_to machine_from unless_step
-  step_live r d l w = record {
+  step_live a n d l w = record {
     means = λ well.
         w.means well
         ∙ sym (ap₂ (λ (s : ℕ) p. step_by box_limits m s branch p) (sym (found_serial (plan_for row).identifiers live c serial k (place well) (omega arith)))

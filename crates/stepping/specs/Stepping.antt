@@ -3,13 +3,14 @@
 use Rattle.std.specs.Prelude.{ℕ, ◌≡◌, true, get_or}
 use Rattle.std.proofs.Math.Option.{some}
 use Rattle.plan.specs.declared.Plan.{Plan}
+use Rattle.machine.specs.declared.Answer.{Answer}
 use Rattle.machine.specs.Machine.{box_limits, well_formed, step_by}
-use Rattle.machine.specs.State.{Cells, placed, machine_from, unless_done}
-use Rattle.population.specs.declared.Settled.{Settled}
-use Rattle.population.specs.Lent.{outcome_from, Same}
+use Rattle.machine.specs.State.{Cells, placed, unless_done}
+use Rattle.population.specs.declared.Counts.{Counts}
+use Rattle.population.specs.Lent.{machine_at, outcome_from, Same}
 
 -- The step of the process at place k, below refusal 20.
-pub record SteppedAt (plan : Plan) (next live : ℕ) (c : Cells) (k branch : ℕ) (r : Settled) (d : Cells) : Type 0 where
-  pub means : well_formed box_limits (machine_from plan next live c) ≡ true
-      → outcome_from plan r d ≡ step_by box_limits (machine_from plan next live c) (get_or c.serials k 0) branch (some (placed plan.identifiers c k))
-  pub same : unless_done r.answer (Same next live c r d)
+pub record SteppedAt (plan : Plan) (n : Counts) (c : Cells) (k branch : ℕ) (answer : Answer) (n' : Counts) (d : Cells) : Type 0 where
+  pub means : well_formed box_limits (machine_at plan n c) ≡ true
+      → outcome_from plan answer n' d ≡ step_by box_limits (machine_at plan n c) (get_or c.serials k 0) branch (some (placed plan.identifiers c k))
+  pub same : unless_done answer (Same n c n' d)

@@ -7,67 +7,71 @@ ghost use Rattle.planrow.specs.Lookup.{plan_for};
 ghost use Rattle.machine.specs.Machine.{step};
 ghost use Rattle.population.specs.Arrays.{cells};
 ghost use Rattle.population.specs.Lent.{Tried};
-ghost use Rattle.population.specs.Refusals.{settled_or};
+ghost use Rattle.population.specs.Refusals.{done_or};
 ghost use Rattle.stepping.specs.Stepping.{SteppedAt};
 
-use machine::Answer;
 use planrow::WORDS;
-use population::{Child, Refusal, Settled};
+use population::{Child, Counts, Refusal};
 
-// The step of the process at place k. A row of more than 32 identifiers means a bad state, whose tags have no places.
+// The step of the process at place k.
 fn step_at(
     row: &[u32; WORDS],
-    next: u32,
-    live: u32,
+    counts: &mut Counts,
     k: usize,
     branch: u32,
     serials: &mut [u32; 128],
     templates: &mut [u32; 128],
     labels: &mut [u32; 128],
     tags: &mut [u32; 4096],
-) -> Result<Settled, Refusal>
-    requires { (k < live) × (live ≤ 128) }
+) -> Result<(), Refusal>
+    requires { (k < counts.now.live) × (counts.now.live ≤ 128) }
     ensures { let plan = plan_for row.now in
         let c = cells serials.old templates.old labels.old tags.old in
         let d = cells serials.new templates.new labels.new tags.new in
-        SteppedAt plan next live c k branch (settled_or next live result) d }
+        SteppedAt plan counts.old c k branch (done_or result) counts.new d }
 {
     let m = planrow::identifier_count(row);
-    if 32 < m {
-        return Err(Refusal::BadState);
-    }
     let t = planrow::template_at(row, templates[k]);
     let heirs = admission::children_of(t.form, branch);
     let children = heirs.map(|y| Child {
         number: y as u32,
         template: planrow::template_at(row, y as u32),
     });
-    admission::admit(m, next, live, labels[k], t, branch, children)?;
-    let last = live - 1;
+    admission::admit(m, *counts, labels[k], t, branch, children)?;
+    let last = counts.live - 1;
     spawning::advance(
-        m, next, k as u32, last, children, serials, templates, labels, tags,
+        m,
+        counts.next,
+        k as u32,
+        last,
+        children,
+        serials,
+        templates,
+        labels,
+        tags,
     );
     let born = children.count();
-    Ok(population::settle(Answer::Done, next + born, last + born))
+    counts.next += born;
+    counts.live = last + born;
+    Ok(())
 }
 
 // Document 01, Step: 21, then 22 to 25 for the process found.
 pub fn attempt(
     row: &[u32; WORDS],
-    next: u32,
-    live: u32,
+    counts: &mut Counts,
     serials: &mut [u32; 128],
     templates: &mut [u32; 128],
     labels: &mut [u32; 128],
     tags: &mut [u32; 4096],
     serial: u32,
     branch: u32,
-) -> Result<Settled, Refusal>
+) -> Result<(), Refusal>
     ensures { let plan = plan_for row.now in
         let c = cells serials.old templates.old labels.old tags.old in
         let d = cells serials.new templates.new labels.new tags.new in
-        Tried plan next live c (step serial branch) (settled_or next live result) d }
+        Tried plan counts.old c (step serial branch) (done_or result) counts.new d }
 {
-    let k = population::find(serials, live, serial)?;
-    step_at(row, next, live, k, branch, serials, templates, labels, tags)
+    let k = population::find(serials, counts.live, serial)?;
+    step_at(row, counts, k, branch, serials, templates, labels, tags)
 }

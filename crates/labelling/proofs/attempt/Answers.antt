@@ -2,31 +2,25 @@
 use mathlib.Core.Path.{refl}
 use native.Mathlib.Omega.{arith}
 use Rattle.std.proofs.lemmas.Result.{err_from_is_err_and}
-use Rattle.population.proofs.Lent.{tried_wide}
-use Rattle.labelling.proofs.Labels.{move_gone, move_refused, move_done, below-width}
+use Rattle.population.proofs.Lent.{of_live}
+use Rattle.labelling.proofs.Labels.{move_gone, move_refused, move_done}
 use Rattle.labelling.proofs.attempt.Goals as goal
 
 pub returns-in_err-k : goal.returns-in_err-k
-returns-in_err-k c = λ next tags. let p = err_from_is_err_and c.from_residual.result c.from_residual.ensures.1 in
-    rw (p.1, p.2, c.in_err-k.ensures.1) (move_gone _ _ _ _ _ _ _ _ _ _ c.told-serials _ c.in_err-k.ensures.0 (omega arith))
-
-pub returns-then-m-gt32 : goal.returns-then-m-gt32
-returns-then-m-gt32 c = λ next tags. search tried_wide
+returns-in_err-k c = λ tags. of_live _ _ (λ next. let p = err_from_is_err_and c.from_residual.result c.from_residual.ensures.1 in
+    rw (p.1, p.2, c.in_err-k.ensures.1) (move_gone _ _ _ _ _ _ _ _ _ _ c.told-serials _ c.in_err-k.ensures.0 (omega arith)))
 
 pub bounds-templates-k : goal.bounds-templates-k
 bounds-templates-k c = let k = c.in_ok-k.ensures in omega (arith, k.1, k.2, c.told-templates)
 
 pub returns-in_err-permit : goal.returns-in_err-permit
-returns-in_err-permit c = λ next tags. let p = err_from_is_err_and c.from_residual-in_err-permit.result c.from_residual-in_err-permit.ensures.1 in
+returns-in_err-permit c = λ tags. of_live _ _ (λ next. let p = err_from_is_err_and c.from_residual-in_err-permit.result c.from_residual-in_err-permit.ensures.1 in
     rw (p.1, p.2) (move_refused _ _ _ _ _ _ _ _ _ _ c.told-serials _ c.in_ok-k.ensures.0 c.in_ok-k.ensures.1 _ c.identifier_count-m.ensures _ c.template_at-t.ensures
-    _ c.movable_of.ensures _ c.in_err-permit.ensures _ refl)
+    _ c.movable_of.ensures _ c.in_err-permit.ensures _ refl))
 
 pub bounds-labels-k : goal.bounds-labels-k
 bounds-labels-k c = let k = c.in_ok-k.ensures in omega (arith, k.1, k.2, c.told-labels)
 
-pub label_with-label-requires : goal.label_with-label-requires
-label_with-label-requires c = below-width _ _ _ _ c.in_ok-permit.ensures c.if-m-gt32.false
-
 pub returns : goal.returns
-returns c = λ next tags. move_done _ _ _ _ _ _ _ _ _ _ c.told-serials _ c.in_ok-k.ensures.0 c.in_ok-k.ensures.1 _ c.identifier_count-m.ensures _ c.template_at-t.ensures
-    _ c.movable_of.ensures _ c.in_ok-permit.ensures refl _ _ c.label_with-label.ensures c.told-labels refl
+returns c = λ tags. of_live _ _ (λ next. move_done _ _ _ _ _ _ _ _ _ _ c.told-serials _ c.in_ok-k.ensures.0 c.in_ok-k.ensures.1 _ c.identifier_count-m.ensures _ c.template_at-t.ensures
+    _ c.movable_of.ensures _ c.in_ok-permit.ensures refl _ _ c.label_with.ensures c.told-labels refl)

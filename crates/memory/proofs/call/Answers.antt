@@ -3,4 +3,5 @@ use Rattle.memory.proofs.Answered.{answered}
 use Rattle.memory.proofs.call.Goals as goal
 
 pub returns : goal.returns
-returns c = let did = rw c.from-call.ensures at c.run_call-r.ensures in answered _ _ _ _ _ _ _ _ c.code_of.ensures did
+returns c = let did = rw (c.from-call.ensures, c.from-counts.ensures) at c.run_call-answer.ensures in
+    rw c.into.ensures (answered _ _ _ _ _ _ _ _ c.from.ensures did)

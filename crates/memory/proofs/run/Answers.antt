@@ -3,4 +3,4 @@ use Rattle.memory.proofs.Answered.{runs_row}
 use Rattle.memory.proofs.run.Goals as goal
 
 pub returns : goal.returns
-returns c = runs_row _ _ _ _ _ _ _ c.run_calls-ran.ensures
+returns c = rw c.into.ensures (runs_row _ _ _ _ _ _ _ (rw c.from-counts.ensures at c.run_calls-count.ensures))

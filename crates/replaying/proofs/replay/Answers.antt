@@ -6,8 +6,8 @@ use mathlib.Core.Bool.{not}
 use Rattle.replaying.proofs.replay.Goals as goal
 
 pub returns-then-not-is_accepted : goal.returns-then-not-is_accepted
-returns-then-not-is_accepted c = replays_not _ _ _ _ _ _ c.start-started.ensures _ c.is_accepted.ensures (ap not c.if-not-is_accepted.true)
+returns-then-not-is_accepted c = replays_not _ _ _ _ _ _ c.start-verdict.ensures _ c.is_accepted.ensures (ap not c.if-not-is_accepted.true)
 
 pub returns : goal.returns
-returns c = replays_so _ _ _ _ _ _ c.start-started.ensures _ c.is_accepted.ensures (ap not c.if-not-is_accepted.false)
-    _ _ _ c.play-ran.ensures
+returns c = replays_so _ _ _ _ _ _ c.start-verdict.ensures _ c.is_accepted.ensures (ap not c.if-not-is_accepted.false)
+    _ _ _ c.play-count.ensures

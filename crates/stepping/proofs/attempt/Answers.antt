@@ -9,4 +9,4 @@ returns-in_err-k c = let p = err_from_is_err_and c.from_residual.result c.from_r
     rw (p.1, p.2, c.in_err-k.ensures.1) (step_gone _ _ _ _ _ _ _ _ _ c.told-serials _ c.in_err-k.ensures.0 (omega arith))
 
 pub returns : goal.returns
-returns c = step_live _ _ _ _ _ _ _ _ _ c.told-serials _ c.in_ok-k.ensures.0 _ _ c.in_ok-k.ensures.1 c.step_at.ensures
+returns c = step_live _ _ _ _ _ _ _ _ _ c.told-serials _ c.in_ok-k.ensures.0 _ _ _ c.in_ok-k.ensures.1 c.step_at.ensures
