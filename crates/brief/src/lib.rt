@@ -1,6 +1,9 @@
 // What stored cases say of a verdict, on one line.
 #![tactic(auto)]
 
+ghost use Rattle.std.specs.Prelude.{Some};
+ghost use Rattle.brief.specs.Briefs.{name_of, brief_of};
+
 use rules::{Text, Verdict};
 use std::fmt;
 use std::fmt::{Formatter, Write};
@@ -10,6 +13,8 @@ use std::fmt::{Formatter, Write};
 pub struct Name(pub Text);
 
 impl fmt::Display for Name {
+    ghost output = { λ name. Some (name_of name.0) };
+
     fn fmt<W: Write>(&self, f: &mut Formatter<W>) -> fmt::Result {
         match self.0 {
             Text::Plan => write!(f, "plan"),
@@ -23,6 +28,8 @@ impl fmt::Display for Name {
 pub struct Brief(pub Verdict);
 
 impl fmt::Display for Brief {
+    ghost output = { λ brief. Some (brief_of brief.0) };
+
     fn fmt<W: Write>(&self, f: &mut Formatter<W>) -> fmt::Result {
         match self.0 {
             Verdict::Accepted => write!(f, "accepted"),

@@ -2,45 +2,41 @@
 // leading zeros, one space apart.
 #![tactic(auto)]
 
+ghost use Rattle.callline.specs.Lines.{ReadsNumber, ReadsCall};
+
 use dispatch::Call;
+use std::str;
 
-// One digit more.
-fn with_digit(value: u32, b: u8) -> Option<u32> {
-    let digit = char::from(b).to_digit(10)?;
-    value.checked_mul(10)?.checked_add(digit)
-}
-
-// std's parse would take a sign and leading zeros.
-fn read_number(s: &[u8]) -> Option<u32> {
-    match s {
-        [] | [b'0', _, ..] => None,
-        _ => s.iter().try_fold(0, |value, b| with_digit(value, *b)),
+// A number in decimal; std's parse would take a sign and leading zeros.
+fn read_number(s: &str) -> Option<u32>
+    ensures { ReadsNumber s.now result }
+{
+    if s.starts_with('+') || 1 < s.len() && s.starts_with('0') {
+        return None;
     }
-}
-
-// What stands before the first space, and what after it.
-fn split_at_space(s: &[u8]) -> Option<(&[u8], &[u8])> {
-    let space = s.iter().position(|b| *b == b' ')?;
-    Some((&s[..space], &s[space + 1..]))
+    s.parse().ok()
 }
 
 // A line without its byte 10.
-pub fn read_line(s: &[u8]) -> Option<Call> {
-    let (word, numbers) = split_at_space(s)?;
-    let (first, second) = split_at_space(numbers)?;
+pub fn read_line(s: &[u8]) -> Option<Call>
+    ensures { ReadsCall s.now result }
+{
+    let line = str::from_utf8(s).ok()?;
+    let (word, numbers) = line.split_once(' ')?;
+    let (first, second) = numbers.split_once(' ')?;
     let x = read_number(first)?;
     let y = read_number(second)?;
     match word {
-        b"step" => Some(Call::Step {
+        "step" => Some(Call::Step {
             serial: x,
             branch: y,
         }),
-        b"send" => Some(Call::Send { from: x, to: y }),
-        b"raise" => Some(Call::Raise {
+        "send" => Some(Call::Send { from: x, to: y }),
+        "raise" => Some(Call::Raise {
             serial: x,
             identifier: y,
         }),
-        b"lower" => Some(Call::Lower {
+        "lower" => Some(Call::Lower {
             serial: x,
             identifier: y,
         }),

@@ -49,11 +49,14 @@ fn mix_assertion(sum: u64, a: Assertion) -> u64 {
 }
 
 pub fn mix_plan(sum: u64, plan: Plan) -> u64 {
-    (0..64u8).fold(sum, |total, i| { mix_template(total, plan.template(i)) })
+    plan.templates
+        .iter()
+        .fold(sum, |sum, t| mix_template(sum, *t))
 }
 
 pub fn mix_policy(sum: u64, policy: Policy) -> u64 {
-    (0..32usize).fold(sum, |total, i| {
-        mix_assertion(total, policy.assertion(i))
-    })
+    policy
+        .assertions
+        .iter()
+        .fold(sum, |sum, a| mix_assertion(sum, *a))
 }
