@@ -74,7 +74,7 @@ pub fn templates(row: &[u32; WORDS]) -> &[[u32; WIDTH]]
     row[HEADER..].as_chunks().0
 }
 
-// Whether a template's words stand for one.
+// Whether a template's words stand for one. The tests are joined without a branch: every call makes them of each template.
 #[tactic(auto, using(crate::proofs::Reading::tested))]
 pub fn is_template(words: &[u32; WIDTH]) -> bool
     ensures { result ≡ is_template (word words.now) }
