@@ -27,6 +27,7 @@ pub enum Call {
 impl From<[u32; 3]> for Call {
     ghost from_gives = { λ words call. meant call ≡ call_of (get_or words 0 0) (get_or words 1 0) (get_or words 2 0) };
 
+    #[tactic(auto, unfolding(machine::specs::State::call_of))]
     fn from(words: [u32; 3]) -> Call {
         let [kind, x, y] = words;
         match kind {

@@ -7,10 +7,10 @@ use native.Mathlib.Omega.{arith}
 use lib.Dec.{eqb, ltb}
 use lib.ListN.{length, get_or, set}
 use lib.Seq.{get_or-set_same, get_or-set_other}
-use borrow.Author.Tests.{le-ltb, lt-ltb, ltb-true, not-false}
+use borrow.Author.Tests.{ltb-true, not-false}
 use Rattle.lists.specs.Numbers.{lowest}
 use Rattle.std.specs.Int.Bits.{or_zero_l}
-use Rattle.mask.specs.Mask.{has, plus, without}
+use Rattle.mask.specs.Mask.{plus, without}
 use Rattle.mask.specs.Sets.{plus_below}
 use Rattle.mask.proofs.Items.{plus-below}
 use Rattle.plan.specs.declared.Plan.{Plan}
@@ -20,41 +20,16 @@ use Rattle.planrow.specs.Lookup.{plan_for, template_at}
 use Rattle.population.specs.Refusals.{Among}
 use Rattle.machine.specs.declared.Answer.{Answer}
 use Rattle.machine.specs.declared.Answer.TheVariants.{Done, Refused}
-use Rattle.machine.specs.Machine.{Process, Machine, box_limits, well_formed, find, refuse_if, relabel, movable, label_with, move_answer, moved, settled, move_by, answer_to}
+use Rattle.machine.specs.Machine.{Process, Machine, box_limits, well_formed, find, relabel, movable, label_with, move_answer, moved, settled, move_by, answer_to}
 use Rattle.machine.specs.State.{Cells, words_from, placed, processes_of, machine_from, unless_done}
 use Rattle.machine.proofs.Places.{relabel_at}
 use Rattle.machine.proofs.Templates.{plan_few}
-use Rattle.machine.proofs.Outcomes.{refuse_yes, refuse_no, refuse_done, settled_refused, settled_done}
+use Rattle.machine.proofs.Outcomes.{refuse_done, settled_refused, settled_done}
 use Rattle.population.specs.Arrays.{cells}
 use Rattle.population.specs.Lent.{counts, Tried}
 use Rattle.population.proofs.Fits.{formed_plan, formed_live, formed_identifiers, looked_at}
 use Rattle.population.proofs.Lent.{unless_step_lem, tried_same, placed_at, found_none, found_some, found_serial, alone}
 use Rattle.labelling.specs.Labelling.{moves, refusal_of}
-
--- ---- 27 to 29
-
-module _ (M : ℕ) (risk : Bool) (allowed i : ℕ) where
-  pub refused_27 : M ≤ i → Refused 27 ≡ refusal_of M risk allowed i
-  unfolding refusal_of
-  refused_27 h = sym (refuse_yes (not (ltb i M)) 27 _ (ap not (le-ltb i M h)))
-
-  module _ (h : i < M) where
-    from_28 : refusal_of M risk allowed i ≡ refuse_if (not risk) 28 (refuse_if (not (has i allowed)) 29 Done)
-    unfolding refusal_of
-    from_28 = refuse_no (not (ltb i M)) 27 _ (ap not (lt-ltb i M h))
-
-    pub refused_28 : not risk ≡ true → Refused 28 ≡ refusal_of M risk allowed i
-    refused_28 e = sym (from_28 ∙ refuse_yes (not risk) 28 _ e)
-
-    module _ (e : not risk ≡ false) (b : Bool) (eb : b ≡ has i allowed) where
-      from_29 : refusal_of M risk allowed i ≡ refuse_if (not (has i allowed)) 29 Done
-      from_29 = from_28 ∙ refuse_no (not risk) 28 _ e
-
-      pub refused_29 : not b ≡ true → Refused 29 ≡ refusal_of M risk allowed i
-      refused_29 q = sym (from_29 ∙ refuse_yes (not (has i allowed)) 29 _ (ap not (sym eb) ∙ q))
-
-      pub refused_none : not b ≡ false → Done ≡ refusal_of M risk allowed i
-      refused_none q = sym (from_29 ∙ refuse_no (not (has i allowed)) 29 _ (ap not (sym eb) ∙ q))
 
 -- What may be moved is an identifier of the plan's.
 not_refused : (M : ℕ) (risk : Bool) (allowed i : ℕ) → Done ≡ refusal_of M risk allowed i → i < M

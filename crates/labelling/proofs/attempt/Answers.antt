@@ -10,16 +10,10 @@ pub returns-in_err-k : goal.returns-in_err-k
 returns-in_err-k c = λ tags. of_live _ _ (λ next. let p = err_from_is_err_and c.from_residual.result c.from_residual.ensures.1 in
     rw (p.1, p.2, c.in_err-k.ensures.1) (move_gone _ _ _ _ _ _ _ _ _ _ c.told-serials _ c.in_err-k.ensures.0 (omega arith)))
 
-pub bounds-templates-k : goal.bounds-templates-k
-bounds-templates-k c = let k = c.in_ok-k.ensures in omega (arith, k.1, k.2, c.told-templates)
-
 pub returns-in_err-permit : goal.returns-in_err-permit
 returns-in_err-permit c = λ tags. of_live _ _ (λ next. let p = err_from_is_err_and c.from_residual-in_err-permit.result c.from_residual-in_err-permit.ensures.1 in
     rw (p.1, p.2) (move_refused _ _ _ _ _ _ _ _ _ _ c.told-serials _ c.in_ok-k.ensures.0 c.in_ok-k.ensures.1 _ c.identifier_count-m.ensures _ c.template_at-t.ensures
     _ c.movable_of.ensures _ c.in_err-permit.ensures _ refl))
-
-pub bounds-labels-k : goal.bounds-labels-k
-bounds-labels-k c = let k = c.in_ok-k.ensures in omega (arith, k.1, k.2, c.told-labels)
 
 pub returns : goal.returns
 returns c = λ tags. of_live _ _ (λ next. move_done _ _ _ _ _ _ _ _ _ _ c.told-serials _ c.in_ok-k.ensures.0 c.in_ok-k.ensures.1 _ c.identifier_count-m.ensures _ c.template_at-t.ensures

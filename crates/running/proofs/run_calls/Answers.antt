@@ -1,7 +1,5 @@
 -- Before call i the arrays are what the first i calls led through, and the first i answers are the machine's own.
-use mathlib.Core.Path.{refl, ap, ◌∙◌}
-use Prim.Native.Nat.{ℕ, min}
-use native.Mathlib.Omega.{arith}
+use mathlib.Core.Path.{refl, ◌∙◌}
 use borrow.Author.Rules.{rules}
 use Rattle.running.proofs.Runs.{stands_none, stands_on, played, call_of_three}
 use Rattle.running.proofs.run_calls.Goals as goal
