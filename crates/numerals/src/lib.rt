@@ -11,6 +11,7 @@ const POWERS: [u32; 10] = [
     1, 10, 100, 1000, 10000, 100000, 1000000, 10000000, 100000000, 1000000000,
 ];
 
+#[tactic(auto, using(crate::proofs::Digits::power_is))]
 fn power(k: usize) -> u32
     requires { k < 10 }
     ensures { result ≡ 10 ^ k }

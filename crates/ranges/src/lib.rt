@@ -6,6 +6,7 @@ ghost use Rattle.lists.specs.Numbers.{every};
 ghost use Rattle.ranges.specs.Ranges.{rises};
 
 // Whether n places from `from` on stand in a list of that length. The sum itself may not fit.
+#[tactic(auto, using(crate::proofs::Ranges::within_not, crate::proofs::Ranges::within_rest))]
 pub fn is_within(len: usize, from: usize, n: usize) -> bool
     ensures { result ≡ leb (from + n) len }
 {

@@ -11,6 +11,7 @@ ghost use Rattle.tagrows.specs.Rows.{child_tag};
 use mask::Mask;
 
 // Where the tags of a place begin, of m identifiers.
+#[tactic(auto, using(crate::proofs::Rows::product_fits))]
 pub fn row_start(place: u32, m: u32) -> usize
     ensures { result ≡ place * m }
 {
@@ -36,6 +37,7 @@ pub fn copy_row(tags: &[u32; 4096], from: usize) -> [u32; 32]
 }
 
 // Document 01: "its parent's tags, and its own serial as tag of each identifier Y creates".
+#[tactic(auto, unfolding(crate::specs::Rows::child_tag))]
 fn child_tag(serial: u32, creates: u32, parent: u32, i: u32) -> u32
     ensures { result ≡ child_tag serial creates parent i }
 {
