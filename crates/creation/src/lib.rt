@@ -12,8 +12,8 @@ use mask::Mask;
 use plan::Plan;
 use rules::Breach;
 
-// The identifiers that two templates create: each is in what an earlier template created. That the row has its length is known
-// once a template was read; so it is no fold, whose closure tells nothing outside of what it read: there the proof did not close.
+// The identifiers that two templates create: each is in what an earlier template created. A loop and no fold: that the row has its
+// length is known once a template was read, and a fold's closure tells nothing outside of what it read.
 fn created_twice(plan: &Plan) -> u32
     ensures marks { Marks result (λ t. ltb (next_creator plan.now t) plan.now.count) }
     ensures row { 0 < plan.now.count → length plan.now.templates ≡ 64 }

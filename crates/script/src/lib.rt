@@ -26,7 +26,8 @@ fn read_ended(line: &[u8]) -> Option<Call> {
     callline::read_line(line.strip_suffix(b"\n")?)
 }
 
-// The calls of a text, and their words in the buffer; a call that there is no room for is a fault too.
+// The calls of a text, and their words in the buffer; a call that there is no room for is a fault too. How many words there are so
+// far is counted by hand: the answer is cut by it, after a line that is no call too.
 fn read_lines<'a>(text: &[u8], words: &'a mut [u32]) -> Script<'a>
     ensures { length result.words.now ≤ length words.old }
 {
