@@ -48,6 +48,7 @@ fn mix_assertion(sum: u64, a: Assertion) -> u64 {
     mix_all(sum, &values)
 }
 
+// Of a plan, and of a policy: two types, one line each.
 pub fn mix_plan(sum: u64, plan: Plan) -> u64 {
     plan.templates
         .iter()
