@@ -1,6 +1,6 @@
 -- Words copied from one list to another, as the code meets it: all of them where both ranges are there, else none.
 use Prim.Native.Nat.{ℕ, ◌+◌, ◌-◌, ◌≤◌, ◌<◌}
-use mathlib.Core.Path.{◌≡◌, refl, sym, ap, ap₂, ◌∙◌}
+use mathlib.Core.Path.{◌≡◌, sym, ap, ap₂, ◌∙◌}
 use mathlib.Core.Bool.{Bool, true, false, ◌&&◌, cond}
 use mathlib.Core.Logic.{⊎_elim}
 use mathlib.Core.List.{List, ◌++◌}
@@ -8,7 +8,7 @@ use native.Mathlib.Omega.{arith}
 use borrow.Rule.Slice.PartMut.{put_mid}
 use lib.ListN.{length, get_or, take, drop, get_or-append}
 use lib.Dec.{leb}
-use borrow.Author.Tests.{le-leb, leb-true}
+use borrow.Author.Tests.{leb-true}
 use Rattle.lists.specs.Writes.{written}
 use Rattle.std.proofs.lemmas.List.{get_or-append_right, get_or-take, get_or-drop, length-take-le, length-drop}
 use Rattle.lists.proofs.Tests.{and_left, and_right, lt_or_le}
@@ -69,12 +69,3 @@ module _ (words into : List ℕ) (from at n : ℕ) (a b : Bool) (ea : a ≡ leb 
   copies_none h j =
       written_none into at (λ i. get_or words (from + i) 0) j
       ∙ ap (λ (k : ℕ). written into at k (λ i. get_or words (from + i) 0) j) (count_is false h)
-
--- All is copied.
-pub copies_there : (words into ys : List ℕ) (from at n : ℕ) → from + n ≤ length words → at + n ≤ length into
-    → ((j : ℕ) → get_or ys j 0 ≡ written into at (copied words from into at n) (λ i. get_or words (from + i) 0) j)
-    → (j : ℕ) → get_or ys j 0 ≡ written into at n (λ i. get_or words (from + i) 0) j
-copies_there words into ys from at n h l w j = w j ∙ ap (λ (k : ℕ). written into at k (λ i. get_or words (from + i) 0) j) all
-  where
-    all : copied words from into at n ≡ n
-    all = sym (count_is words into from at n true true (sym (le-leb (from + n) (length words) h)) (sym (le-leb (at + n) (length into) l)) true refl)

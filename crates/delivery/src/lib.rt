@@ -2,12 +2,10 @@
 // The lent arrays are parameters of their own: crate population says why.
 #![tactic(auto)]
 
-ghost use Rattle.std.specs.Prelude.{◌≡◌, not, ◌&&◌, ◌||◌, List, ℕ, eqb};
+ghost use Rattle.std.specs.Prelude.{◌≡◌, not, ◌&&◌, ◌||◌, List, ℕ, length, eqb};
 ghost use Rattle.mask.specs.Mask.{has};
 ghost use Rattle.planrow.specs.Lookup.{plan_for};
 ghost use Rattle.machine.specs.Machine.{send, agree};
-ghost use Rattle.machine.specs.State.{words_from};
-ghost use Rattle.ranges.specs.Ranges.{holds};
 ghost use Rattle.population.specs.Arrays.{cells};
 ghost use Rattle.population.specs.declared.Counts.{Counts};
 ghost use Rattle.population.specs.Lent.{Tried};
@@ -25,27 +23,15 @@ fn is_agreed(label: u32, receiver: u32, sent: u32, held: u32, i: u32) -> bool
     !label.contains(i) | (receiver.contains(i) & (sent == held))
 }
 
-// Whether what a sender wears, a label and m tags from a place on, passes to a receiver of that label whose tags stand from
-// another place on; not where either part ends too soon.
-pub fn is_passed(
-    m: u32,
-    label: u32,
-    sent: &[u32],
-    from: usize,
-    receiver: u32,
-    held: &[u32],
-    to: usize,
-) -> bool
-    ensures { result ≡ ((holds sent.now from m && holds held.now to m) && agree m label (words_from m sent.now from) receiver (words_from m held.now to)) }
+// Whether what a sender wears, a label and tags, passes to a receiver that wears the others; not where the one has fewer tags than
+// the other. An identifier is one of 32.
+pub fn is_passed(label: u32, sent: &[u32], receiver: u32, held: &[u32]) -> bool
+    ensures { let n = length sent.now in
+        result ≡ (eqb n (length held.now) && agree n label sent.now receiver held.now) }
 {
-    let n = m as usize;
-    if !(ranges::is_within(sent.len(), from, n) & ranges::is_within(held.len(), to, n)) {
-        return false;
-    }
-    let mut agreed = true;
-    for i in 0..m {
-        let k = i as usize;
-        agreed &= is_agreed(label, receiver, sent[from + k], held[to + k], i);
+    let mut agreed = sent.len() == held.len();
+    for (i, (tag, other)) in (0..32).zip(sent.iter().zip(held)) {
+        agreed &= is_agreed(label, receiver, *tag, *other, i);
     }
     agreed
 }
@@ -71,15 +57,13 @@ pub fn attempt(
         return Err(Refusal::ToItself);
     }
     let m = planrow::identifier_count(row);
-    if is_passed(
-        m,
-        labels[a],
-        tags,
-        tagrows::row_start(a as u32, m),
-        labels[b],
-        tags,
-        tagrows::row_start(b as u32, m),
-    ) {
+    let (Some(sent), Some(held)) = (
+        tagrows::row(tags, a as u32, m),
+        tagrows::row(tags, b as u32, m),
+    ) else {
+        return Ok(Answer::Held);
+    };
+    if is_passed(labels[a], sent, labels[b], held) {
         Ok(Answer::Delivered)
     } else {
         Ok(Answer::Held)

@@ -1,26 +1,14 @@
--- Elements chosen by their place and elements chosen by a test: the turn of a loop that chooses, and `filter` of a list
--- made from a function.
-use Prim.Native.Nat.{ℕ, zero, suc, ◌+◌, ◌<◌}
+-- Elements chosen by their place and elements chosen by a test: tests that agree, and `filter` of a list made from a function.
+use Prim.Native.Nat.{ℕ, zero, suc, ◌<◌}
 use mathlib.Core.Path.{◌≡◌, refl, sym, ap, ap₂, ◌∙◌}
 use mathlib.Core.Bool.{Bool, true, false, cond}
 use mathlib.Core.List.{List, [], ◌∷◌, ◌++◌}
-use native.Mathlib.Numerals.{add-one}
 use native.Mathlib.Omega.{arith}
 use Rattle.lists.specs.Numbers.{tabulate}
 use Rattle.lists.specs.Chosen.{filter, only_if, chosen}
 use Rattle.lists.proofs.Tabulate.{tabulate_snoc}
 
 module _ {A : Type 0} where
-  pub chosen_none : (p : ℕ → Bool) (f : ℕ → A) → chosen 0 p f ≡ []
-  unfolding chosen
-  chosen_none p f = refl
-
-  -- One turn: a is what was chosen before i, b what is chosen with it.
-  pub chosen_more : (i : ℕ) (p : ℕ → Bool) (f : ℕ → A) (a b : List A) → a ≡ chosen i p f → b ≡ a ++ only_if (p i) (f i) → b ≡ chosen (i + 1) p f
-  unfolding chosen
-  chosen_more i p f a b e h =
-      h ∙ ap (λ (a : List A). a ++ only_if (p i) (f i)) e ∙ ap (λ (n : ℕ). chosen n p f) (sym (add-one i))
-
   -- Tests that agree below n.
   pub chosen_ext : (n : ℕ) (p q : ℕ → Bool) (f : ℕ → A) → ((i : ℕ) → i < n → p i ≡ q i) → chosen n p f ≡ chosen n q f
   unfolding chosen

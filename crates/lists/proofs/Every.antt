@@ -1,7 +1,7 @@
 -- Laws of `every` and `any`: the last number of a range, what a range tells of one number and back, and the turns of
 -- a loop that counts up. Such a loop keeps `every i p ≡ true` or `any i p ≡ false`, or gathers `every i p`.
 use Prim.Native.Nat.{ℕ, zero, suc, ◌+◌, ◌*◌, ◌≤◌, ◌<◌, suc-le-suc, min}
-use mathlib.Core.Path.{◌≡◌, refl, sym, ap, ap₂, ◌∙◌, subst, fun_ext}
+use mathlib.Core.Path.{◌≡◌, refl, sym, ap, ap₂, ◌∙◌, fun_ext}
 use mathlib.Core.Bool.{Bool, true, false, not, ◌&&◌, ◌||◌, and-true, and_assoc, or-false}
 use mathlib.Core.Logic.{⊎_elim}
 use native.Mathlib.Nat.{not-suc-le-zero, le_of_suc-le-suc, zero-lt-suc, zero-add, suc-add, zero-mul, suc-mul, add_comm, add_assoc, le_trans}
@@ -93,10 +93,6 @@ every_capped n k p past =
     (every_fewer (min n k) n p (omega arith))
 
 -- ---- `every`: the turns of a loop (`every_none` at its start)
-
--- A loop that leaves where the test fails ran to the end.
-pub every_end : (n : ℕ) (p : ℕ → Bool) (i : ℕ) → i ≤ n → n ≤ i → every i p ≡ true → true ≡ every n p
-every_end n p i l g e = sym (every_fewer n i p g e)
 
 -- A loop that gathers with `&` and does not leave: its start,
 pub every_start : (p : ℕ → Bool) → true ≡ every 0 p
@@ -190,18 +186,10 @@ any_more n p e h = ap (λ (k : ℕ). any k p) (add-one n) ∙ any_snoc n p ∙ a
 pub any_hit : (n : ℕ) (p : ℕ → Bool) (i : ℕ) → i < n → p i ≡ true → true ≡ any n p
 any_hit n p i h e = sym (any_to n p i h e)
 
--- It ran to the end.
-pub any_end : (n : ℕ) (p : ℕ → Bool) (i : ℕ) → i ≤ n → n ≤ i → any i p ≡ false → false ≡ any n p
-any_end n p i l g e = let q : i ≡ n = omega arith in sym (subst (λ (k : ℕ). any k p ≡ false) q e)
-
 -- A loop that gathers with `|` and does not leave: its start,
 pub any_start : (p : ℕ → Bool) → false ≡ any 0 p
 any_start p = sym (any_none p)
 
--- one more turn,
+-- and one more turn.
 pub any_acc : (n : ℕ) (p : ℕ → Bool) (b : Bool) → b ≡ any n p → (b || p n) ≡ any (n + 1) p
 any_acc n p b e = ap (λ (a : Bool). a || p n) e ∙ sym (any_snoc n p) ∙ ap (λ (k : ℕ). any k p) (sym (add-one n))
-
--- and its end.
-pub any_done : (n : ℕ) (p : ℕ → Bool) (i : ℕ) (b : Bool) → i ≤ n → n ≤ i → b ≡ any i p → b ≡ any n p
-any_done n p i b l g e = let q : i ≡ n = omega arith in e ∙ ap (λ (k : ℕ). any k p) q

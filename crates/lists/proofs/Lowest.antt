@@ -1,7 +1,7 @@
 -- Laws of `lowest`: it is at most the limit, the test passes there where it is less, and fails below it; and it is the
 -- only such number. A loop that looks for it keeps `any i p ≡ false`, with `any_none` and `any_more` for its turns.
 use Prim.Native.Nat.{ℕ, zero, suc, ◌≤◌, ◌<◌, suc-le-suc, zero-le}
-use mathlib.Core.Path.{◌≡◌, refl, sym, ap₂, subst}
+use mathlib.Core.Path.{◌≡◌, refl, sym, ap₂}
 use mathlib.Core.Bool.{Bool, true, false, cond}
 use mathlib.Core.Logic.{⊎_elim}
 use native.Mathlib.Nat.{not-suc-le-zero, le_of_suc-le-suc, zero-lt-suc, lt_trans, le_trans, eq-or-lt_of_le}
@@ -79,10 +79,6 @@ lowest_any n p =
 
 -- ---- two limits
 
--- A longer limit changes nothing where something was found.
-pub lowest_longer : (n k : ℕ) (p : ℕ → Bool) → n ≤ k → lowest n p < n → lowest k p ≡ lowest n p
-lowest_longer n k p h l = lowest_is k p (lowest n p) (le_trans l h) (lowest-holds n p l) (lowest-below n p)
-
 -- Where the test fails from n on, whatever a longer limit finds stands below n
 pub lowest_found : (n k : ℕ) (p : ℕ → Bool) → ((i : ℕ) → n ≤ i → i < k → p i ≡ false) → lowest k p < k → lowest k p < n
 lowest_found n k p f l =
@@ -91,15 +87,6 @@ lowest_found n k p f l =
 -- and is found below n.
 pub lowest_shorter : (n k : ℕ) (p : ℕ → Bool) → ((i : ℕ) → n ≤ i → i < k → p i ≡ false) → lowest k p < k → lowest n p ≡ lowest k p
 lowest_shorter n k p f l = lowest_is n p (lowest k p) (lowest_found n k p f l) (lowest-holds k p l) (lowest-below k p)
-
--- Then one limit finds something exactly where the other does.
-pub lowest_limit : (n k : ℕ) (p : ℕ → Bool) → n ≤ k → ((i : ℕ) → n ≤ i → i < k → p i ≡ false) → ltb (lowest n p) n ≡ ltb (lowest k p) k
-lowest_limit n k p h f =
-    same_test (ltb (lowest n p) n) (ltb (lowest k p) k)
-    (λ e. let l = ltb-true (lowest n p) n e in
-    lt-ltb (lowest k p) k (le_trans (subst (λ (x : ℕ). x < n) (sym (lowest_longer n k p h l)) l) h))
-    (λ e. let l = ltb-true (lowest k p) k e in
-    lt-ltb (lowest n p) n (subst (λ (x : ℕ). x < n) (sym (lowest_shorter n k p f l)) (lowest_found n k p f l)))
 
 -- ---- the ways out of a loop that looks for it
 

@@ -3,20 +3,11 @@ use Prim.Native.Nat.{ℕ, ◌≤◌, ◌<◌}
 use mathlib.Core.Path.{◌≡◌, refl, sym, ◌∙◌}
 use mathlib.Core.Bool.{Bool, true, false, not, ◌&&◌, ◌||◌, true≢false, false≢true}
 use mathlib.Core.Logic.{◌⊎◌, inl, inr}
-use lib.Dec.{T, ltb}
+use lib.Dec.{ltb}
 use borrow.Author.Tests.{ltb-true, ltb-false}
 use Rattle.lists.specs.Joins.{both, either}
 
 -- ---- one test
-
--- `T b` and `b ≡ true` say the same.
-pub T→eq : (b : Bool) → T b → b ≡ true
-T→eq true t = refl
-T→eq false t = absurd t
-
-pub eq→T : (b : Bool) → b ≡ true → T b
-eq→T true e = tt
-eq→T false e = absurd (false≢true e)
 
 -- A test passes or fails.
 pub bool? : (b : Bool) → (b ≡ true) ⊎ (b ≡ false)
@@ -73,17 +64,6 @@ pub and_of : (a b : Bool) → a ≡ true → b ≡ true → (a && b) ≡ true
 and_of true b p q = q
 and_of false b p q = absurd (false≢true p)
 
--- Not both: where the one passes the other fails.
-pub nand : (a b : Bool) → not (a && b) ≡ true → a ≡ true → b ≡ false
-nand true true e p = absurd (false≢true e)
-nand true false e p = refl
-nand false b e p = absurd (false≢true p)
-
-pub nand_of : (a b : Bool) → (a ≡ true → b ≡ false) → not (a && b) ≡ true
-nand_of true true h = absurd (true≢false (h refl))
-nand_of true false h = refl
-nand_of false b h = refl
-
 -- ---- or
 
 pub or_left : (a b : Bool) → a ≡ true → (a || b) ≡ true
@@ -116,20 +96,7 @@ pub imp_of : (a b : Bool) → (a ≡ true → b ≡ true) → (not a || b) ≡ t
 imp_of true b h = h refl
 imp_of false b h = refl
 
--- Where the first passes, one of the other two does.
-pub imp_or : (a b c : Bool) → (not a || (b || c)) ≡ true → a ≡ true → b ≡ false → c ≡ true
-imp_or a true c e p q = absurd (true≢false q)
-imp_or a false c e p q = imp a c e p
-
-pub imp_or_of : (a b c : Bool) → (a ≡ true → b ≡ false → c ≡ true) → (not a || (b || c)) ≡ true
-imp_or_of a true c h = imp_of a true (λ p. refl)
-imp_or_of a false c h = imp_of a c (λ p. h p refl)
-
 -- ---- the joins that stay shut
-
-pub both_and : (a b : Bool) → both a b ≡ (a && b)
-unfolding both
-both_and a b = refl
 
 pub both_left : (a b : Bool) → both a b ≡ true → a ≡ true
 unfolding both
@@ -143,10 +110,6 @@ pub both_of : (a b : Bool) → a ≡ true → b ≡ true → both a b ≡ true
 unfolding both
 both_of = and_of
 
-pub either_or : (a b : Bool) → either a b ≡ (a || b)
-unfolding either
-either_or a b = refl
-
 pub either_left : (a b : Bool) → a ≡ true → either a b ≡ true
 unfolding either
 either_left = or_left
@@ -158,11 +121,3 @@ either_right = or_right
 pub either_cases : (a b : Bool) → either a b ≡ true → (a ≡ true) ⊎ (b ≡ true)
 unfolding either
 either_cases = or_cases
-
-pub either_none : (a b : Bool) → either a b ≡ false → (a ≡ false) × (b ≡ false)
-unfolding either
-either_none = or_none
-
-pub either_neither : (a b : Bool) → a ≡ false → b ≡ false → either a b ≡ false
-unfolding either
-either_neither = or_neither

@@ -7,10 +7,6 @@ use mir.Val.{Fits}
 use mir.Syntax.{w32}
 use Rattle.mask.proofs.Shifted.{one_shifted}
 
--- Below 33 identifiers nothing is cut.
-pub count_few : (m r : ℕ) → m ≤ 32 → r ≡ 2 ^ min m 32 → r ≡ 2 ^ m
-count_few m r h e = let q : min m 32 ≡ m = omega arith in e ∙ ap (λ (k : ℕ). 2 ^ k) q
-
 -- 1 moved up by w, the lesser of m and 32, in 64 digits.
 pub count_shifted : (m w : ℕ) → w ≡ min m 32 → 1 * 2 ^ w % 2 ^ 64 ≡ 2 ^ min m 32
 count_shifted m w e = one_shifted 64 w (omega arith) ∙ ap (λ (k : ℕ). 2 ^ k) e

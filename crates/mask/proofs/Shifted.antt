@@ -2,13 +2,11 @@
 -- in a width of k digits.
 use Prim.Native.Nat.{ℕ, zero, suc, ◌+◌, ◌-◌, ◌*◌, ◌%◌, ◌^◌, ◌≤◌, ◌<◌}
 use mathlib.Core.Path.{◌≡◌, sym, ap, ◌∙◌}
-use mathlib.Core.Bool.{true, false}
-use mathlib.Core.Logic.{⊎_elim}
-use native.Mathlib.Nat.{pow-suc, mul_assoc, mul-mod_left, mul-div_cancel, zero-lt-suc, not-suc-le-zero, le_of_suc-le-suc, add-zero, add-suc, one-mul, mul-one, zero-mul, mod-eq_of_lt, lt_of_lt_of_le}
+use mathlib.Core.Bool.{false}
+use native.Mathlib.Nat.{pow-suc, mul_assoc, mul-mod_left, mul-div_cancel, zero-lt-suc, not-suc-le-zero, le_of_suc-le-suc, add-zero, add-suc, one-mul, mul-one, mod-eq_of_lt, lt_of_lt_of_le}
 use native.Mathlib.Omega.{arith}
 use lib.Bits.{bit_or}
 use lib.Pow.{pow-add, pow-lt, pow_mono, shl_lt, mod-mod-pow}
-use Rattle.lists.proofs.Tests.{lt_or_le, passes_fails}
 use Rattle.mask.specs.Mask.{has, plus}
 use Rattle.mask.specs.Sets.{plus_below, shifted}
 use Rattle.mask.proofs.Digits.{is_one}
@@ -28,10 +26,6 @@ pub shifted_zero : (m : ℕ) → shifted 0 m ≡ m
 unfolding shifted
 shifted_zero m = mul-one m
 
-pub shifted_none : (n : ℕ) → shifted n 0 ≡ 0
-unfolding shifted
-shifted_none n = zero-mul (2 ^ n)
-
 -- From the shift on stand the mask's items,
 pub has-shifted : (n m i : ℕ) → has (i + n) (shifted n m) ≡ has i m
 has-shifted zero m i = ap (λ (j : ℕ). has j (shifted 0 m)) (add-zero i) ∙ ap (has i) (shifted_zero m)
@@ -44,13 +38,6 @@ pub shifted-below : (n m i : ℕ) → i < n → has i (shifted n m) ≡ false
 shifted-below zero m i h = absurd (not-suc-le-zero h)
 shifted-below (suc n) m zero h = ap (has 0) (double n m) ∙ double_zero (shifted n m)
 shifted-below (suc n) m (suc i) h = ap (has (suc i)) (double n m) ∙ double_suc i (shifted n m) ∙ shifted-below n m i (le_of_suc-le-suc h)
-
--- So each item of a shifted mask is an item of the mask, shifted.
-pub shifted_item : (n m i : ℕ) → has i (shifted n m) ≡ true → (j : ℕ) × (i ≡ j + n) × (has j m ≡ true)
-shifted_item n m i e =
-    ⊎_elim (λ h. absurd (passes_fails (has i (shifted n m)) e (shifted-below n m i h)))
-    (λ h. let q : i ≡ i - n + n = omega arith in
-    (i - n, q, sym (has-shifted n m (i - n)) ∙ ap (λ (j : ℕ). has j (shifted n m)) (sym q) ∙ e)) (lt_or_le i n)
 
 -- ---- in a width of k digits
 

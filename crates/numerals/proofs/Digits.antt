@@ -1,6 +1,6 @@
 -- Digits as the loops meet them: the table of powers, the width of a number, and a turn of the loop that writes.
 use Prim.Native.Nat.{ℕ, zero, suc, ◌+◌, ◌-◌, ◌*◌, ◌/◌, ◌%◌, ◌^◌, ◌≤◌, ◌<◌, suc-le-suc}
-use mathlib.Core.Path.{◌≡◌, refl, sym, ap, ◌∙◌, subst}
+use mathlib.Core.Path.{◌≡◌, refl, sym, ap, ap₂, ◌∙◌, subst}
 use mathlib.Core.Bool.{Bool, true, false}
 use mathlib.Core.List.{List, [], ◌∷◌}
 use mathlib.Core.Logic.{⊎_elim}
@@ -84,31 +84,37 @@ numeral_is : (d : ℕ) → d < 10 → numeral d ≡ 48 + d
 unfolding numeral
 numeral_is d h = rw (lt-ltb d 10 h) (omega arith)
 
--- A turn: left is how many digits were left, p the power of the one that is written.
-module _ (left rest p : ℕ) (some : 0 < left) (is : p ≡ 10 ^ (left - 1)) (room : rest < 10 ^ left) where
-  count : left ≡ suc (left - 1)
+pub power_pos : (k p : ℕ) → p ≡ 10 ^ k → 0 < p
+power_pos k p is = subst (λ (p : ℕ). 0 < p) (sym is) (one-le-pow k 10 (zero-lt-suc 9))
+
+-- A turn: i digits are written, p is the power of the next one.
+module _ (width i rest p : ℕ) (some : i < width) (is : p ≡ 10 ^ (width - 1 - i)) (room : rest < 10 ^ (width - i)) where
+  count : width - i ≡ suc (width - 1 - i)
   count = omega (arith, some)
 
-  pub power_pos : 0 < p
-  power_pos = subst (λ (k : ℕ). 0 < k) (sym is) (one-le-pow (left - 1) 10 (zero-lt-suc 9))
+  fewer : width - 1 - i ≡ width - (i + 1)
+  fewer = omega arith
 
   pub digit_small : rest / p < 10
   digit_small =
-      (div-lt_iff_lt-mul power_pos).1
-      (subst (λ (k : ℕ). rest < k) (ap (λ (k : ℕ). 10 ^ k) count ∙ pow-suc 10 (left - 1) ∙ ap (λ (k : ℕ). k * 10) (sym is) ∙ mul_comm p 10) room)
+      (div-lt_iff_lt-mul (power_pos _ p is)).1
+      (subst (λ (k : ℕ). rest < k) (ap (λ (k : ℕ). 10 ^ k) count ∙ pow-suc 10 (width - 1 - i) ∙ ap (λ (k : ℕ). k * 10) (sym is) ∙ mul_comm p 10) room)
 
-  pub rest_room : rest % p < 10 ^ (left - 1)
-  rest_room = subst (λ (k : ℕ). rest % p < k) is (mod-lt rest power_pos)
+  pub rest_room : rest % p < 10 ^ (width - (i + 1))
+  rest_room = subst (λ (k : ℕ). rest % p < k) (is ∙ ap (λ (k : ℕ). 10 ^ k) fewer) (mod-lt rest (power_pos _ p is))
 
-  pub turn : (out : List ℕ) (i : ℕ) → sets (set out i (48 + rest / p)) (i + 1) (spell 10 (left - 1) (rest % p)) ≡ sets out i (spell 10 left rest)
+  pub turn : (out : List ℕ) (at : ℕ) → sets (set out (at + i) (48 + rest / p)) (at + (i + 1)) (spell 10 (width - (i + 1)) (rest % p)) ≡ sets out (at + i) (spell 10 (width - i) rest)
   unfolding spell
-  turn out i =
-      ap (λ (d : ℕ). sets (set out i d) (i + 1) (spell 10 (left - 1) (rest % p))) (sym (numeral_is (rest / p) digit_small))
-      ∙ ap (λ (p : ℕ). sets (set out i (numeral (rest / p))) (i + 1) (spell 10 (left - 1) (rest % p))) is
-      ∙ ap (λ (k : ℕ). sets (set out i (numeral (rest / 10 ^ (left - 1)))) k (spell 10 (left - 1) (rest % 10 ^ (left - 1)))) (add-one i)
-      ∙ ap (λ (k : ℕ). sets out i (spell 10 k rest)) (sym count)
+  turn out at =
+      ap (λ (d : ℕ). sets (set out (at + i) d) (at + (i + 1)) (spell 10 (width - (i + 1)) (rest % p))) (sym (numeral_is (rest / p) digit_small))
+      ∙ ap (λ (p : ℕ). sets (set out (at + i) (numeral (rest / p))) (at + (i + 1)) (spell 10 (width - (i + 1)) (rest % p))) is
+      ∙ ap₂ (λ (k left : ℕ). sets (set out (at + i) (numeral (rest / 10 ^ (width - 1 - i)))) k (spell 10 left (rest % 10 ^ (width - 1 - i)))) next (sym fewer)
+      ∙ ap (λ (k : ℕ). sets out (at + i) (spell 10 k rest)) (sym count)
+    where
+      next : at + (i + 1) ≡ suc (at + i)
+      next = omega arith
 
 -- No digit is left.
-pub none_left : (out : List ℕ) (i left rest : ℕ) → left ≤ 0 → out ≡ sets out i (spell 10 left rest)
+pub none_left : (out : List ℕ) (at width i rest : ℕ) → width ≤ i → out ≡ sets out (at + i) (spell 10 (width - i) rest)
 unfolding spell
-none_left out i left rest h = let e : 0 ≡ left = omega (arith, h) in ap (λ (k : ℕ). sets out i (spell 10 k rest)) e
+none_left out at width i rest h = let e : 0 ≡ width - i = omega (arith, h) in ap (λ (k : ℕ). sets out (at + i) (spell 10 k rest)) e

@@ -31,17 +31,16 @@ fn decimal_width(n: u32) -> usize
 }
 
 // Writes so many decimal digits of n, the highest first.
+#[tactic(auto, using(crate::proofs::Digits::power_pos, crate::proofs::Digits::digit_small))]
 fn write_digits(out: &mut [u8], at: usize, width: usize, n: u32)
     requires { (width ≤ 10) × (at + width ≤ length out.old) × (n < 10 ^ width) }
     ensures { out.new ≡ sets out.old at (spell 10 width n) }
 {
-    let mut i = at;
     let mut rest = n;
-    for left in (0..width).rev() {
-        let p = power(left);
-        out[i] = 48 + (rest / p) as u8;
-        rest = rest % p;
-        i += 1;
+    for i in 0..width {
+        let p = power(width - 1 - i);
+        out[at + i] = b'0' + (rest / p) as u8;
+        rest %= p;
     }
 }
 

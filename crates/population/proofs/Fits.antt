@@ -3,7 +3,6 @@
 use Prim.Native.Nat.{ℕ, ◌+◌, ◌-◌, ◌*◌, ◌^◌, ◌≤◌, ◌<◌, min}
 use mathlib.Core.Path.{◌≡◌, refl, sym, ap, ap₂, ◌∙◌, fun_ext}
 use mathlib.Core.Bool.{Bool, true, false, not, ◌&&◌}
-use mathlib.Core.Logic.{⊎_elim}
 use mathlib.Core.List.{List, map}
 use native.Mathlib.Nat.{mul-le-mul}
 use native.Mathlib.Omega.{arith}
@@ -11,23 +10,21 @@ use lib.ListN.{length, get_or}
 use lib.Dec.{ltb, leb}
 use mir.Val.{Fits}
 use mir.Syntax.{w32}
-use borrow.Author.Tests.{leb-true, ltb-true, le-ltb, lt-ltb, le-leb, lt-leb, not-true, not-false}
+use borrow.Author.Tests.{leb-true, ltb-true, le-leb, not-true, not-false}
 use Rattle.lists.specs.Numbers.{every, all, tabulate}
-use Rattle.lists.proofs.Tests.{lt_or_le, and_left, and_right}
-use Rattle.lists.proofs.Every.{every_at, every_ext, every_and, every-rows}
+use Rattle.lists.proofs.Tests.{and_left, and_right}
+use Rattle.lists.proofs.Every.{every_at, every_and, every-rows}
 use Rattle.lists.proofs.Tabulate.{length-tabulate, all_tabulate}
 use Rattle.plan.specs.declared.{Template.{Template}, Plan.{Plan}}
 use Rattle.plan.specs.Plan.{at}
 use Rattle.planrow.specs.Row.{count_in, identifiers_in}
 use Rattle.planrow.specs.Lookup.{plan_for, template_at}
 use Rattle.planrow.proofs.Fits.{fit_count, fit_identifiers, fit_lookup}
-use Rattle.ranges.specs.Ranges.{holds, rises}
-use Rattle.ranges.proofs.Ranges.{all_below_start, none_above_start, is_rising_start}
 use Rattle.machine.specs.Machine.{box_limits, plan_fits, process_fits, rising, population_fits, well_formed}
 use Rattle.machine.specs.State.{Cells, words_from, placed, processes_of, machine_from}
 use Rattle.machine.proofs.Places.{rising_places}
 use Rattle.machine.proofs.Templates.{plan_few}
-use Rattle.population.specs.Arrays.{cells, Sized, arrays_fit, below, parts_fit}
+use Rattle.population.specs.Arrays.{Sized, arrays_fit, below, parts_fit}
 
 -- ---- the processes
 
@@ -82,11 +79,7 @@ module _ (plan : Plan) (next live : ℕ) (c : Cells) where
       ap (λ (b : Bool). plan_fits plan && b)
       (ap₂ ◌&&◌ (le-leb next 4294967295 (omega arith)) population_arrays)
 
--- ---- the processes' part, as the code makes it
-
-at_most : (x t w : ℕ) → t + 1 ≡ w → leb x t ≡ ltb x w
-at_most x t w e =
-    ⊎_elim (λ l. lt-leb x t l ∙ sym (le-ltb x w (omega arith))) (λ l. le-leb x t l ∙ sym (lt-ltb x w (omega arith))) (lt_or_le t x)
+-- ---- the processes' part, in arrays of document 01's sizes
 
 -- Each of the five tests asks that the places are there.
 once : (l u a b d e f : Bool) → (l ≡ true → u ≡ true) → ((l && a) && ((l && b) && ((l && d) && ((l && e) && (u && f))))) ≡ (l && (a && (b && (d && (e && f)))))
@@ -97,26 +90,7 @@ once false u a b d e f h = refl
 few_tags : (M live : ℕ) → M ≤ 32 → leb live 128 ≡ true → leb (live * M) 4096 ≡ true
 few_tags M live few e = let q : live * M ≤ 128 * 32 = mul-le-mul (leb-true live 128 e) few in le-leb (live * M) 4096 (omega arith)
 
--- n is live as an index, top the greatest mask of M identifiers, used the number of tags.
-pub parts_gathered : (N M next live n top used : ℕ) (xs ts ls gs : List ℕ) (a b d e f : Bool) → n ≡ live → top + 1 ≡ 2 ^ min M 32 → used ≡ live * M
-    → a ≡ rises xs 0 n
-    → b ≡ (holds xs 0 n && every n (λ i. ltb (get_or xs (0 + i) 0) next))
-    → d ≡ (holds ts 0 n && every n (λ i. ltb (get_or ts (0 + i) 0) N))
-    → e ≡ (holds ls 0 n && every n (λ i. leb (get_or ls (0 + i) 0) top))
-    → f ≡ (holds gs 0 used && every used (λ i. ltb (get_or gs (0 + i) 0) next))
-    → (a && (b && (d && (e && f)))) ≡ parts_fit N M next live (cells xs ts ls gs)
-unfolding parts_fit below
-parts_gathered N M next live n top used xs ts ls gs a b d e f en et eu ea eb ed ee ef =
-    ap₂ ◌&&◌ (is_rising_start xs n a ea ∙ ap (λ (n : ℕ). leb n (length xs) && every (n - 1) (λ i. ltb (get_or xs i 0) (get_or xs (i + 1) 0))) en)
-    (ap₂ ◌&&◌ (all_below_start xs n next b eb ∙ ap (λ (n : ℕ). below xs n next) en)
-    (ap₂ ◌&&◌ (all_below_start ts n N d ed ∙ ap (λ (n : ℕ). below ts n N) en)
-    (ap₂ ◌&&◌ (none_above_start ls n top e ee ∙ ap (λ (b : Bool). leb n (length ls) && b) masks ∙ ap (λ (n : ℕ). below ls n (2 ^ min M 32)) en)
-    (all_below_start gs used next f ef ∙ ap (λ (n : ℕ). below gs n next) eu))))
-  where
-    masks : every n (λ i. leb (get_or ls i 0) top) ≡ every n (λ i. ltb (get_or ls i 0) (2 ^ min M 32))
-    masks = every_ext n (λ i. leb (get_or ls i 0) top) (λ i. ltb (get_or ls i 0) (2 ^ min M 32)) (λ i h. at_most (get_or ls i 0) top (2 ^ min M 32) et)
-
--- In arrays of document 01's sizes the places are there where no more than 128 live.
+-- The places are there where no more than 128 live.
 parts_arrays : (N M next live : ℕ) (c : Cells) → Sized c → M ≤ 32 → parts_fit N M next live c ≡ (leb live 128 && arrays_fit N M next live c)
 unfolding parts_fit below arrays_fit
 parts_arrays N M next live c sized few =

@@ -9,10 +9,11 @@ use lib.Dec.{eqb}
 use lib.ListN.{length, get_or}
 use borrow.Author.Tests.{eqb-true, not-true, not-false}
 use Rattle.lists.specs.Numbers.{lowest}
-use Rattle.lists.proofs.Lowest.{lowest-holds}
+use Rattle.std.proofs.Common.{slice_range}
+use Rattle.lists.proofs.Lowest.{lowest-holds, lowest_ext}
+use Rattle.lists.proofs.Parts.{first_length, first_at}
 use Rattle.plan.specs.declared.Plan.{Plan}
-use Rattle.arrays.specs.Places.{Located}
-use Rattle.arrays.proofs.Serials.{place_of_start}
+use Rattle.ranges.proofs.Ranges.{first_rises}
 use Rattle.machine.specs.declared.Answer.{Answer}
 use Rattle.machine.specs.declared.Answer.TheVariants.{Done, Delivered, Held, Refused}
 use Rattle.machine.specs.Machine.{Call, step, send, raise, lower, box_limits, plan_fits, well_formed, find, settled, if_done, answer_to, run}
@@ -20,6 +21,7 @@ use Rattle.machine.specs.State.{Cells, placed, processes_of, machine_from, unles
 use Rattle.machine.proofs.Places.{find_live, find_gone, places_differ}
 use Rattle.population.specs.declared.Counts.{Counts}
 use Rattle.population.specs.Lent.{counts, machine_at, outcome_from, Same, LabelsAlone, unless_step, Did, Tried}
+use Rattle.population.specs.Refusals.{Among}
 use Rattle.population.proofs.Fits.{formed_rising, formed_live, formed_serials}
 
 -- ---- the ways out of a call
@@ -96,10 +98,14 @@ module _ (M live : ℕ) (c : Cells) (s k : ℕ) (ek : k ≡ lowest live (λ i. e
 
 -- Of a state that is not bad the serials rise, so that what was looked for is found.
 module _ (plan : Plan) (next live : ℕ) (c : Cells) (well : well_formed box_limits (machine_from plan next live c) ≡ true) where
-  pub placed_at : (s k : ℕ) → length c.serials ≡ 128 → Located c.serials 0 live s k → k ≡ lowest live (λ i. eqb (get_or c.serials i 0) s)
+  pub placed_at : (s k : ℕ) → length c.serials ≡ 128 → Among c.serials live s k → k ≡ lowest live (λ i. eqb (get_or c.serials i 0) s)
   placed_at s k sized at =
-      place_of_start c.serials live s k at.first
-      (let f = formed_live plan next live c well in omega (arith, sized)) (formed_serials plan next live c well)
+      at there (first_rises c.serials live there ∙ formed_serials plan next live c well)
+      ∙ ap (λ (n : ℕ). lowest n (λ i. eqb (get_or (slice_range c.serials 0 live) i 0) s)) (first_length c.serials live there)
+      ∙ lowest_ext live _ _ (λ i h. ap (λ (x : ℕ). eqb x s) (first_at c.serials live there 0 i h))
+    where
+      there : live ≤ length c.serials
+      there = omega (arith, sized, formed_live plan next live c well)
 
   -- No other place has the serial of a place.
   pub alone : (k : ℕ) → k < live → (i : ℕ) → i < live → get_or c.serials i 0 ≡ get_or c.serials k 0 → i ≡ k

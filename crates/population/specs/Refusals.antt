@@ -1,7 +1,7 @@
 -- Document 01's numbers of the refusals of step, send, raise and lower, the answers that results stand for, and where a
 -- process is found.
 -- Not to be believed: the contract of `dispatch::run_call` names the machine alone.
-use Rattle.std.specs.Prelude.{ℕ, ◌≡◌, ◌≤◌, ◌<◌, List, Result, Ok, Err}
+use Rattle.std.specs.Prelude.{ℕ, ◌≡◌, ◌≤◌, ◌<◌, List, length, slice_range, Result, Ok, Err}
 use Rattle.machine.specs.declared.Answer.{Answer}
 use Rattle.machine.specs.declared.Answer.TheVariants.{Done, Refused}
 use Rattle.arrays.specs.Places.{Located}
@@ -33,7 +33,11 @@ abbrev pub answer_or : Result Answer Refusal → Answer
 answer_or (Ok answer) = answer
 answer_or (Err refusal) = refused refusal
 
+-- Where a serial stands among the first n, if so many are there and rise, and n where none of them has it.
+abbrev pub Among : List ℕ → ℕ → ℕ → ℕ → Type 0
+Among serials n s k = n ≤ length serials → Located (slice_range serials 0 n) s k
+
 -- The place of a serial among the live ones, if they rise, or that none of them has it.
 abbrev pub Found : List ℕ → ℕ → ℕ → Result ℕ Refusal → Type 0
-Found serials live s (Ok k) = Located serials 0 live s k × (k < live) × (live ≤ 128)
-Found serials live s (Err refusal) = Located serials 0 live s live × (refusal ≡ NotLive)
+Found serials live s (Ok k) = Among serials live s k × (k < live) × (live ≤ 128)
+Found serials live s (Err refusal) = Among serials live s live × (refusal ≡ NotLive)

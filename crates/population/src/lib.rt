@@ -58,7 +58,10 @@ impl From<Refusal> for Answer {
 pub fn find(serials: &[u32; 128], live: u32, serial: u32) -> Result<usize, Refusal>
     ensures { Found serials.now live serial result }
 {
-    arrays::place_of(serials, 0, live, serial).ok_or(Refusal::NotLive)
+    serials
+        .get(..live as usize)
+        .and_then(|alive| arrays::place_of(alive, serial))
+        .ok_or(Refusal::NotLive)
 }
 
 // A child's template, by its number too.
@@ -112,10 +115,19 @@ pub fn are_fitting(
     let n = live as usize;
     let top = mask::full_mask(m);
     let used = tagrows::row_start(live, m);
-    ranges::is_rising(serials, 0, n)
-        & (ranges::all_below(serials, 0, n, next)
-            & (ranges::all_below(templates, 0, n, count)
-                & (ranges::none_above(labels, 0, n, top) & ranges::all_below(tags, 0, used, next))))
+    let (Some(serials), Some(templates), Some(labels), Some(tags)) = (
+        serials.get(..n),
+        templates.get(..n),
+        labels.get(..n),
+        tags.get(..used),
+    ) else {
+        return false;
+    };
+    ranges::is_rising(serials)
+        & ranges::all_below(serials, next)
+        & ranges::all_below(templates, count)
+        & ranges::none_above(labels, top)
+        & ranges::all_below(tags, next)
 }
 
 // Whether what these stand for is no bad state: refusal 20, on the whole of it.

@@ -1,8 +1,9 @@
-// Rows of tags: where one begins, one copied, and one written for a child. What is public takes any numbers: none reads or
-// stores past an end.
+// Rows of tags: where one begins, one lent, one copied, and one written for a child. Each takes any numbers: none reads or stores
+// past an end.
 #![tactic(auto)]
 
 ghost use Rattle.std.specs.Prelude.{◌≡◌, ℕ, ◌<◌, ◌≤◌, ◌+◌, ◌*◌, min, get_or, length};
+ghost use Rattle.std.specs.Slice.{IsGetRangeResult};
 ghost use Rattle.lists.specs.Numbers.{tabulate};
 ghost use Rattle.lists.specs.Writes.{written};
 ghost use Rattle.tagrows.specs.Rows.{child_tag};
@@ -14,6 +15,14 @@ pub fn row_start(place: u32, m: u32) -> usize
     ensures { result ≡ place * m }
 {
     (place as usize) * (m as usize)
+}
+
+// The m tags of a place, if they all stand there.
+pub fn row(tags: &[u32], place: u32, m: u32) -> Option<&[u32]>
+    ensures { IsGetRangeResult tags.now (place * m) (place * m + m) result }
+{
+    let from = row_start(place, m);
+    tags.get(from..from + m as usize)
 }
 
 // The 32 tags from a place on, the last 32 where fewer stand there.
@@ -28,18 +37,18 @@ pub fn copy_row(tags: &[u32; 4096], from: usize) -> [u32; 32]
 
 // Document 01: "its parent's tags, and its own serial as tag of each identifier Y creates".
 fn child_tag(serial: u32, creates: u32, parent: u32, i: u32) -> u32
-    requires { i < 32 }
     ensures { result ≡ child_tag serial creates parent i }
 {
     if creates.contains(i) { serial } else { parent }
 }
 
-// Writes the 32 tags of a child from a place on, the last 32 where fewer are there.
+// Writes the 32 tags of a child from a place on, the last 32 where fewer are there. After a write through `iter_mut` of a slice a
+// proof knows no element.
 pub fn write_row(tags: &mut [u32; 4096], from: usize, parent: [u32; 32], creates: u32, serial: u32)
     ensures { (j : ℕ) → get_or tags.new j 0 ≡ written tags.old (min from 4064) 32 (λ i. child_tag serial creates (get_or parent i 0) i) j }
 {
     let first = from.min(4064);
-    for i in 0..32 {
-        tags[first + i] = child_tag(serial, creates, parent[i], i as u32);
+    for (i, tag) in parent.iter().enumerate() {
+        tags[first + i] = child_tag(serial, creates, *tag, i as u32);
     }
 }

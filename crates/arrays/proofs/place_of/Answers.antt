@@ -1,19 +1,13 @@
 -- Those below the serial are counted, and the next one is compared.
-use mathlib.Core.{Bool.{not}, Path.{ap}}
-use Rattle.arrays.proofs.Serials.{located_out, located_past, located_found, located_none}
+use Rattle.std.proofs.Common.{rules}
+use Rattle.arrays.proofs.Serials.{located_found, located_none}
 use Rattle.arrays.proofs.place_of.Goals as goal
 
-pub returns-then-not-is_within-clause-place : goal.returns-then-not-is_within-clause-place
-returns-then-not-is_within-clause-place c = located_out c.args.xs.now _ _ _ _ c.is_within.ensures (ap not c.if-not-is_within.true)
+pub returns-in-Some-clause-place : goal.returns-in-Some-clause-place
+returns-in-Some-clause-place c = located_found c.args.xs.now _ _ c.count_below-low.ensures.split (search rules) (search rules)
 
-pub returns-then-all-low-clause-place : goal.returns-then-all-low-clause-place
-returns-then-all-low-clause-place c =
-    located_past c.args.xs.now _ _ _ _ c.is_within.ensures (ap not c.if-not-is_within.false) _ c.count_below-low.ensures c.if-all-low.true
+pub returns-in_default-clause-place : goal.returns-in_default-clause-place
+returns-in_default-clause-place c = located_none c.args.xs.now _ _ c.count_below-low.ensures.split (λ l q. c.if-x-serial.false (search rules))
 
-pub returns-then-xs-from-clause-place : goal.returns-then-xs-from-clause-place
-returns-then-xs-from-clause-place c =
-    located_found c.args.xs.now _ _ _ _ c.is_within.ensures (ap not c.if-not-is_within.false) _ c.count_below-low.ensures c.if-all-low.false c.if-xs-from.true
-
-pub returns-clause-place : goal.returns-clause-place
-returns-clause-place c =
-    located_none c.args.xs.now _ _ _ _ c.is_within.ensures (ap not c.if-not-is_within.false) _ c.count_below-low.ensures c.if-all-low.false c.if-xs-from.false
+pub returns-in_default-2-clause-place : goal.returns-in_default-2-clause-place
+returns-in_default-2-clause-place c = located_none c.args.xs.now _ _ c.count_below-low.ensures.split (λ l q. absurd (search rules))

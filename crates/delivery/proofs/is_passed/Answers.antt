@@ -1,24 +1,19 @@
--- Where both parts have the tags, the loop has gathered what the identifiers that it passed say.
-use mathlib.Core.Path.{◌≡◌}
-use mathlib.Core.Bool.{not}
-use native.Mathlib.Omega.{arith}
-use Rattle.lists.proofs.Every.{every_start, every_told}
-use Rattle.delivery.proofs.Sends.{parts_there, passed_short, passed_parts}
-use Rattle.std.proofs.Common.{ap}
+-- The loop has gathered what the identifiers that it passed say.
+use Rattle.std.proofs.lemmas.Iterator.Consumers.{YieldsList-turn, YieldsList-end}
+use Rattle.delivery.proofs.Passed.{clear_none, pairs_run, clear_more, clear_all}
 use Rattle.delivery.proofs.is_passed.Goals as goal
 
-pub returns-then-not-is_within : goal.returns-then-not-is_within
-returns-then-not-is_within c = search passed_short
-
 pub loop-i-init : goal.loop-i-init
-loop-i-init c = let there = parts_there _ _ _ _ _ _ _ c.is_within.ensures c.is_within-2.ensures (ap not c.if-not-is_within.false) in
-    record { sent_there = there.0; held_there = there.1; gathered = every_start _ }
+loop-i-init c = clear_none _ _ _ _
 
 pub loop-i-preserved : goal.loop-i-preserved
-loop-i-preserved c = let l = c.loop-i.invariant in
-    record { sent_there = l.sent_there; held_there = l.held_there; gathered = every_told _ _ _ _ l.gathered c.is_agreed-agreed.ensures }
+loop-i-preserved c =
+    let l = c.loop-i in
+    let here = YieldsList-turn (pairs_run c.args.sent.now c.args.held.now (cc) (cc) (cc)) l.yielded _ l.yielded_by _ c.next.new.self _ c.in-Some.is c.next.ensures.steps in
+    clear_more _ _ _ _ l.yielded _ _ _ _ l.invariant here c.is_agreed-agreed.ensures
 
 pub returns : goal.returns
-returns c = let l = c.loop-i in
-    let e : l.i ≡ c.args.m = omega arith in
-    passed_parts _ _ _ _ _ _ _ _ _ c.is_within.ensures c.is_within-2.ensures (ap not c.if-not-is_within.false) _ (rw e at l.invariant.gathered)
+returns c =
+    let l = c.loop-i in
+    let whole = YieldsList-end (pairs_run c.args.sent.now c.args.held.now (cc) (cc) (cc)) l.yielded _ l.yielded_by _ c.next.new.self c.in-None.is c.next.ensures.steps in
+    clear_all _ _ _ _ c.ranges.label _ _ l.invariant whole.1

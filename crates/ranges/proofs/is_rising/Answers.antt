@@ -1,24 +1,24 @@
--- The loop has gathered the test of the numbers that it passed.
-use Prim.Native.Nat.{◌-◌}
-use mathlib.Core.{Bool.{not}, Path.{◌≡◌, sym, ap}}
-use native.Mathlib.Omega.{arith}
-use Rattle.lists.proofs.Every.{every_none, every_acc}
-use Rattle.ranges.specs.Ranges.{rises}
-use Rattle.ranges.proofs.Ranges.{range_not, range_there, holds_there}
+-- The numbers beside those that come after them.
+use Rattle.std.proofs.Common.{rules}
+use Rattle.std.proofs.lemmas.Slice.Zip.{zip_turn, zip_end}
+use Rattle.lists.proofs.Every.{every_start}
+use Rattle.ranges.proofs.Ranges.{none_rise, rising_turn, rising_end}
 use Rattle.ranges.proofs.is_rising.Goals as goal
 
-pub returns-then-not-is_within : goal.returns-then-not-is_within
-unfolding rises
-returns-then-not-is_within c = rw (range_not _ _ _ _ c.is_within.ensures (ap not c.if-not-is_within.true))
+pub returns-in_default : goal.returns-in_default
+returns-in_default c = none_rise _ c.in_default.ensures.cases
 
-pub loop-i-init : goal.loop-i-init
-loop-i-init c = (search range_there, sym (every_none _))
+pub loop-x-init : goal.loop-x-init
+loop-x-init c = every_start _
 
-pub loop-i-preserved : goal.loop-i-preserved
-loop-i-preserved c = (c.loop-i.invariant.0, every_acc _ _ _ c.loop-i.invariant.1)
+pub loop-x-preserved : goal.loop-x-preserved
+loop-x-preserved c =
+    let l = c.loop-x in
+    let t = zip_turn c.args.xs.now c.in-Some.after.now _ _ _ c.next.new.self _ (search rules) (search rules) l.yielded_by _ c.in-Some-2.is c.next.ensures.steps in
+    rising_turn _ _ _ c.in-Some.ensures.cases.0 l.yielded _ _ _ _ l.invariant (t.2 0) (t.3 0)
 
 pub returns : goal.returns
-unfolding rises
-returns c = let l = c.loop-i in
-    let e : l.i ≡ c.args.n - 1 = omega arith in
-    rw (holds_there _ _ _ l.invariant.0) (rw e at l.invariant.1)
+returns c =
+    let l = c.loop-x in
+    let n = zip_end c.args.xs.now c.in-Some.after.now _ _ _ c.next.new.self _ (search rules) (search rules) l.yielded_by c.in-None.is c.next.ensures.steps in
+    rising_end _ _ _ c.in-Some.ensures.cases.0 _ _ l.invariant n
