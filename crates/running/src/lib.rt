@@ -27,6 +27,7 @@ pub fn run_calls(
 {
     let (threes, _) = calls.as_chunks::<3>();
     let n = threes.len().min(answers.len());
+    // The answers by an index: of a slice that a zip writes a proof knows nothing afterwards.
     for (i, &words) in threes[..n].iter().enumerate() {
         let call = Call::from(words);
         let answer = dispatch::run_call(row, counts, serials, templates, labels, tags, call);
