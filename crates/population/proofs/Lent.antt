@@ -13,7 +13,6 @@ use Rattle.std.proofs.Common.{slice_range}
 use Rattle.lists.proofs.Lowest.{lowest-holds, lowest_ext}
 use Rattle.lists.proofs.Parts.{first_length, first_at}
 use Rattle.plan.specs.declared.Plan.{Plan}
-use Rattle.planrow.specs.Lookup.{plan_for}
 use Rattle.ranges.proofs.Ranges.{first_rises}
 use Rattle.machine.specs.declared.Answer.{Answer}
 use Rattle.machine.specs.declared.Answer.TheVariants.{Done, Delivered, Held, Refused}
