@@ -13,7 +13,7 @@ use prot::Labels;
 use route::Layout;
 use rules::Breach;
 
-// 17 of a secrecy, by whether some identifier serves.
+// 17 of a secrecy, by whether some identifier serves; 255 is document 01's number for no identifier.
 fn check_17(served: bool, place: u8, sink: u8) -> Result<(), Breach>
     ensures { answered result ≡ cond served Accepted (broken 17 place sink 255) }
 {

@@ -1,7 +1,7 @@
 // What the programs share: a file read into a buffer, two of them lent to a closure, a line of a key and a value, words in base 16.
 #![tactic(auto)]
 
-ghost use Rattle.std.specs.Prelude.{◌≡◌, ◌<◌, ◌≤◌, [], ◌∷◌, ◌++◌, length, take, IfOk, OnOk};
+ghost use Rattle.std.specs.Prelude.{◌<◌, ◌≤◌, [], ◌∷◌, ◌++◌, length, take, IfOk, OnOk};
 ghost use Rattle.std.specs.Fmt.{decimal};
 ghost use Rattle.std.specs.Io.{ReadsAtMost};
 ghost use Rattle.console.specs.Hexadecimal.{hex_byte_of, hex_word_of};
@@ -17,7 +17,7 @@ pub const TEXT_ROOM: usize = 65536;
 
 // Reads until the buffer is full or the input ends, and answers how many bytes stand at the buffer's start. Not a `for`: a read
 // gives as many bytes as it will, so there are no turns to count.
-fn fill<R: Read>(input: &mut R, buffer: &mut [u8]) -> io::Result<usize>
+pub fn fill<R: Read>(input: &mut R, buffer: &mut [u8]) -> io::Result<usize>
     ensures bound { ReadsAtMost result buffer.new }
     ensures bytes { IfOk result (λ n. Consumes (R.remaining input.old) (R.remaining input.new) (take n buffer.new)) }
     ensures end { IfOk result (λ n. n < length buffer.new → IsAtEnd (R.remaining input.new)) }
@@ -77,7 +77,7 @@ pub fn print_hex_byte<W: Write>(out: &mut W, b: u8) -> io::Result<()>
     write!(out, "{b:02x}")
 }
 
-// Eight digits of base 16.
+// Eight digits of base 16, byte by byte: of a padded number in base 16 std has the law for a byte alone.
 pub fn print_hex_word<W: Write>(out: &mut W, n: u32) -> io::Result<()>
     ensures { OnOk result (Appends (W.contents out.old) (W.contents out.new) (hex_word_of n)) }
 {

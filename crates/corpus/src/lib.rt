@@ -120,7 +120,7 @@ pub fn for_each_pair<F: FnMut(&[u8], &[u8]) -> io::Result<()>>(
     rt: &impl Files,
     mut use_pair: F,
 ) -> io::Result<()>
-    requires { (state : F) (plan policy : _) → F.pre state plan policy }
+    requires { (f : F) (plan policy : _) → F.pre f plan policy }
 {
     for_each_case(
         rt,
@@ -138,12 +138,13 @@ pub fn for_each_pair<F: FnMut(&[u8], &[u8]) -> io::Result<()>>(
     )
 }
 
-// Hands each stored case with calls to the closure.
+// Hands each stored case with calls to the closure. Beside for_each_pair and not one function with it, as read_run is beside read_pair: a
+// trait of both cases would have to say for each what it reads, lends and asks of the closure, which is all that there is.
 pub fn for_each_run<F: FnMut(Run) -> io::Result<()>>(
     rt: &impl Files,
     mut use_run: F,
 ) -> io::Result<()>
-    requires { (state : F) (run : _) → F.pre state run }
+    requires { (f : F) (run : _) → F.pre f run }
 {
     for_each_case(
         rt,

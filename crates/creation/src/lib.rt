@@ -12,8 +12,8 @@ use mask::Mask;
 use plan::Plan;
 use rules::Breach;
 
-// The identifiers that two templates create: each is in what an earlier template created. A loop and no fold: that the row has its
-// length is known once a template was read, and a fold's closure tells nothing outside of what it read.
+// The identifiers that two templates create: each is in what an earlier template created. A loop by number, no slice of the first
+// N and no fold: that the row has its length is known once a template was read, and a fold's closure tells nothing outside of that.
 fn created_twice(plan: &Plan) -> u32
     ensures marks { Marks result (λ t. ltb (next_creator plan.now t) plan.now.count) }
     ensures row { 0 < plan.now.count → length plan.now.templates ≡ 64 }
@@ -35,7 +35,7 @@ fn creator_from(plan: &Plan, t: u32, from: u8) -> Option<u8>
     (from..plan::capped(plan.count, 64)).find(|x| plan.templates[*x as usize].creates.contains(t))
 }
 
-// 11: the lowest identifier that is created twice, and its two lowest creators.
+// 11, document 01's number: the lowest identifier that is created twice, and its two lowest creators.
 pub fn check_11(plan: &Plan) -> Result<(), Breach>
     ensures { answered result ≡ check11 plan.now }
 {

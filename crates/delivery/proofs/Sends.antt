@@ -17,7 +17,7 @@ use Rattle.machine.specs.State.{Cells, words_from, placed, machine_from}
 use Rattle.machine.proofs.Templates.{plan_few}
 use Rattle.population.specs.Arrays.{cells}
 use Rattle.population.specs.Lent.{counts, Tried}
-use Rattle.population.specs.Refusals.{Among}
+use Rattle.population.specs.Refusals.{AmongFirst}
 use Rattle.population.proofs.Fits.{formed_plan, formed_live, formed_identifiers}
 use Rattle.population.proofs.Lent.{tried_same, placed_at, found_none, found_some}
 
@@ -31,7 +31,7 @@ module _ (row : List ℕ) (next live : ℕ) (xs ts ls gs : List ℕ) (from to : 
   abbrev M : ℕ
   M = (plan_for row).identifiers
 
-  module _ (a : ℕ) (at_a : Among xs live from a) where
+  module _ (a : ℕ) (at_a : AmongFirst xs live from a) where
     found_a : well_formed box_limits m ≡ true → a ≡ lowest live (λ i. eqb (get_or xs i 0) from)
     found_a well = placed_at (plan_for row) next live c well from a sized at_a
 
@@ -41,7 +41,7 @@ module _ (row : List ℕ) (next live : ℕ) (xs ts ls gs : List ℕ) (from to : 
         tried_same (plan_for row) (counts next live) c (send from to) (Refused 21) (λ well.
         rw (found_none M live c from a (found_a well) (omega arith)))
 
-    module _ (la : a < live) (b : ℕ) (at_b : Among xs live to b) where
+    module _ (la : a < live) (b : ℕ) (at_b : AmongFirst xs live to b) where
       found_b : well_formed box_limits m ≡ true → b ≡ lowest live (λ i. eqb (get_or xs i 0) to)
       found_b well = placed_at (plan_for row) next live c well to b sized at_b
 

@@ -11,7 +11,7 @@ ghost use Rattle.rules.specs.Broken.{answered};
 use plan::{Form, Plan, UpToTwo};
 use rules::Breach;
 
-// A rule, broken at the lowest item of m below the limit, where there is one.
+// A rule, by document 01's number, broken at the lowest item of m below the limit, where there is one.
 fn check_rule(limit: u32, m: u32, rule: u8, x: u8, y: u8) -> Result<(), Breach>
     ensures { answered result ≡ lowest_offender limit rule x y (λ i. has i m) }
 {
@@ -54,7 +54,7 @@ fn check_edges_from(plan: &Plan, x: u8, form: Form) -> Result<(), Breach>
     }
 }
 
-// X rising. A loop: `try_for_each` would say the same in a closure.
+// X rising. A loop: `try_for_each` would say the same in a closure, and it is by number that an edge is named.
 pub fn check_edges(plan: &Plan) -> Result<(), Breach>
     ensures { answered result ≡ check_edges plan.now }
 {

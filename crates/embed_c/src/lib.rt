@@ -1,5 +1,5 @@
 // The functions of crate embed, exported from libembed.a to a program in another language. What each promises to a C program
-// stands in include/monitor.h.
+// stands in include/monitor.h. No crate can depend on a static library, so what they do stands in crate embed.
 #![tactic(auto)]
 
 ghost use Rattle.std.specs.Prelude.{◌≡◌};

@@ -25,7 +25,8 @@ fn words_of(t: Template) -> [u32; WIDTH]
     ]
 }
 
-// The row of a plan. The first word is N, and 65 where there are more than 64 templates.
+// The row of a plan. The first word is N, and 65 where there are more than 64 templates. By index: of what is written through a zip of
+// chunks no proof knows anything afterwards.
 pub fn row_of(plan: Plan) -> [u32; WORDS]
     ensures { result ≡ row_of_plan plan }
 {

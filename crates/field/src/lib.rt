@@ -55,7 +55,7 @@ fn digit(b: u8) -> Option<u64>
     }
 }
 
-// The number that at most sixteen digits write in a base of at most 16.
+// The number that at most sixteen digits write in a base of at most 16; std's `from_str_radix` takes capitals and a sign.
 #[tactic(auto, using(crate::proofs::Numbers::reading))]
 fn read_digits(s: &[u8], base: u64) -> Result<u64, Refusal>
     requires { (length s.now ≤ 16) × (base ≤ 16) }

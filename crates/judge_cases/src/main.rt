@@ -8,7 +8,7 @@ use std::io::Write;
 // The first 32 bytes at most, each as two digits.
 fn print_bytes<W: Write>(out: &mut W, part: &[u8]) -> io::Result<()> {
     for b in part.iter().take(32) {
-        write!(out, "{b:02x}")?;
+        console::print_hex_byte(out, *b)?;
     }
     Ok(())
 }

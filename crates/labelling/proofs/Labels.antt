@@ -17,7 +17,7 @@ use Rattle.plan.specs.declared.Plan.{Plan}
 use Rattle.plan.specs.declared.Template.{Template}
 use Rattle.planrow.specs.Row.{identifiers_in}
 use Rattle.planrow.specs.Lookup.{plan_for, template_at}
-use Rattle.population.specs.Refusals.{Among}
+use Rattle.population.specs.Refusals.{AmongFirst}
 use Rattle.machine.specs.declared.Answer.{Answer}
 use Rattle.machine.specs.declared.Answer.TheVariants.{Done, Refused}
 use Rattle.machine.specs.Machine.{Process, Machine, box_limits, well_formed, find, relabel, movable, label_with, move_answer, moved, settled, move_by, answer_to}
@@ -58,7 +58,7 @@ unfolding answer_to moves
 move_by_lem m true s i = refl
 move_by_lem m false s i = refl
 
-module _ (row : List ℕ) (next live : ℕ) (xs ts ls gs : List ℕ) (present : Bool) (s i : ℕ) (sized : length xs ≡ 128) (k : ℕ) (at-k : Among xs live s k) where
+module _ (row : List ℕ) (next live : ℕ) (xs ts ls gs : List ℕ) (present : Bool) (s i : ℕ) (sized : length xs ≡ 128) (k : ℕ) (at-k : AmongFirst xs live s k) where
   abbrev c : Cells
   c = cells xs ts ls gs
 

@@ -43,7 +43,8 @@ fn collect<F: Fn(u8) -> bool>(test: F) -> u64
     found
 }
 
-// What stands in each template; as forks, all that are a `both`.
+// What stands in each template; as forks, all that are a `both`. By index, as three rows are written: of what is written through a zip
+// no proof knows anything afterwards.
 fn lay_templates(plan: &Plan) -> Layout
     ensures { result ≡ all_forks plan.now }
 {

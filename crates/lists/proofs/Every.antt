@@ -182,14 +182,6 @@ any_capped n k p past =
 pub any_more : (n : ℕ) (p : ℕ → Bool) → any n p ≡ false → p n ≡ false → any (n + 1) p ≡ false
 any_more n p e h = ap (λ (k : ℕ). any k p) (add-one n) ∙ any_snoc n p ∙ ap₂ ◌||◌ e h
 
--- It leaves: the test passed at i.
-pub any_hit : (n : ℕ) (p : ℕ → Bool) (i : ℕ) → i < n → p i ≡ true → true ≡ any n p
-any_hit n p i h e = sym (any_to n p i h e)
-
--- A loop that gathers with `|` and does not leave: its start,
-pub any_start : (p : ℕ → Bool) → false ≡ any 0 p
-any_start p = sym (any_none p)
-
--- and one more turn.
+-- A loop that gathers with `|` and does not leave: one more turn.
 pub any_acc : (n : ℕ) (p : ℕ → Bool) (b : Bool) → b ≡ any n p → (b || p n) ≡ any (n + 1) p
 any_acc n p b e = ap (λ (a : Bool). a || p n) e ∙ sym (any_snoc n p) ∙ ap (λ (k : ℕ). any k p) (sym (add-one n))

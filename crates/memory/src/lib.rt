@@ -1,5 +1,5 @@
 // Calls on the memory that a program in another language lends: a plan's row, whatever it means, and a box's place and
-// arrays.
+// arrays. Apart from crate embed, which hands on to them, so that embed is checked in less time.
 // The lent arrays are parameters of their own: crate population says why.
 #![tactic(auto)]
 

@@ -1,5 +1,6 @@
 // The identifiers that break a rule on the edge from template x to template y: one mask for each row of edge_rules, all with one
-// signature. lab is lab x where the judge asks, and the process's label where a step does.
+// signature, whose three parts a struct would only have to be taken apart in each line. lab is lab x where the judge asks, and the
+// process's label where a step does.
 #![tactic(auto)]
 
 ghost use Rattle.std.specs.Prelude.{◌≡◌, ◌<◌, IfSome};

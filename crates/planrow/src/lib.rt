@@ -15,7 +15,7 @@ pub const WIDTH: usize = 3 + plan::MASKS + 1;
 
 pub const WORDS: usize = HEADER + WIDTH * 64;
 
-// A form's number and its two successors' words, 0 for one that it lacks.
+// A form's number and its two successors' words, 0 for one that it lacks, as the C interface lends a plan's row.
 #[derive(Clone, Copy)]
 pub struct FormWords(pub u32, pub u8, pub u8);
 
@@ -83,7 +83,7 @@ pub fn is_template(words: &[u32; WIDTH]) -> bool
     (form <= 3) & (first <= 255) & (second <= 255) & (risk <= 1)
 }
 
-// The template that its words stand for, if they stand for one.
+// The template that its words stand for, if they stand for one. A function: TryFrom may not be written here for two types of others.
 #[tactic(auto, using(crate::proofs::Reading::first_byte, crate::proofs::Reading::second_byte, crate::proofs::Reading::template_told))]
 fn template_in(words: &[u32; WIDTH]) -> Option<Template>
     ensures { result ≡ template_meant (word words.now) }

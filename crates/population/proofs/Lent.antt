@@ -21,7 +21,7 @@ use Rattle.machine.specs.State.{Cells, placed, processes_of, machine_from, unles
 use Rattle.machine.proofs.Places.{find_live, find_gone, places_differ}
 use Rattle.population.specs.declared.Counts.{Counts}
 use Rattle.population.specs.Lent.{counts, machine_at, outcome_from, Same, LabelsAlone, unless_step, Did, Tried}
-use Rattle.population.specs.Refusals.{Among}
+use Rattle.population.specs.Refusals.{AmongFirst}
 use Rattle.population.proofs.Fits.{formed_rising, formed_live, formed_serials}
 
 -- ---- the ways out of a call
@@ -98,7 +98,7 @@ module _ (M live : ℕ) (c : Cells) (s k : ℕ) (ek : k ≡ lowest live (λ i. e
 
 -- Of a state that is not bad the serials rise, so that what was looked for is found.
 module _ (plan : Plan) (next live : ℕ) (c : Cells) (well : well_formed box_limits (machine_from plan next live c) ≡ true) where
-  pub placed_at : (s k : ℕ) → length c.serials ≡ 128 → Among c.serials live s k → k ≡ lowest live (λ i. eqb (get_or c.serials i 0) s)
+  pub placed_at : (s k : ℕ) → length c.serials ≡ 128 → AmongFirst c.serials live s k → k ≡ lowest live (λ i. eqb (get_or c.serials i 0) s)
   placed_at s k sized at =
       at there (first_rises c.serials live there ∙ formed_serials plan next live c well)
       ∙ ap (λ (n : ℕ). lowest n (λ i. eqb (get_or (slice_range c.serials 0 live) i 0) s)) (first_length c.serials live there)

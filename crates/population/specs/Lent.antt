@@ -15,8 +15,8 @@ counts next live = record { next = next; live = live }
 abbrev pub counted : List ℕ → Counts
 counted place = counts (get_or place 0 0) (get_or place 1 0)
 
-abbrev pub place_of : Counts → List ℕ
-place_of n = n.next ∷ n.live ∷ []
+abbrev pub as_place : Counts → List ℕ
+as_place n = n.next ∷ n.live ∷ []
 
 -- The machine that a plan, the counts and the arrays stand for,
 abbrev pub machine_at : Plan → Counts → Cells → Machine

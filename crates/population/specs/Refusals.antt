@@ -34,10 +34,10 @@ answer_or (Ok answer) = answer
 answer_or (Err refusal) = refused refusal
 
 -- Where a serial stands among the first n, if so many are there and rise, and n where none of them has it.
-abbrev pub Among : List ℕ → ℕ → ℕ → ℕ → Type 0
-Among serials n s k = n ≤ length serials → Located (slice_range serials 0 n) s k
+abbrev pub AmongFirst : List ℕ → ℕ → ℕ → ℕ → Type 0
+AmongFirst serials n s k = n ≤ length serials → Located (slice_range serials 0 n) s k
 
 -- The place of a serial among the live ones, if they rise, or that none of them has it.
 abbrev pub Found : List ℕ → ℕ → ℕ → Result ℕ Refusal → Type 0
-Found serials live s (Ok k) = Among serials live s k × (k < live) × (live ≤ 128)
-Found serials live s (Err refusal) = Among serials live s live × (refusal ≡ NotLive)
+Found serials live s (Ok k) = AmongFirst serials live s k × (k < live) × (live ≤ 128)
+Found serials live s (Err refusal) = AmongFirst serials live s live × (refusal ≡ NotLive)

@@ -5,7 +5,7 @@ ghost use Rattle.std.specs.Prelude.{◌≡◌};
 ghost use Rattle.planrow.specs.Lookup.{plan_for};
 ghost use Rattle.machine.specs.Machine.{box_limits, well_formed};
 ghost use Rattle.population.specs.Arrays.{cells, parts_fit};
-ghost use Rattle.population.specs.Lent.{counted, place_of, machine_at};
+ghost use Rattle.population.specs.Lent.{counted, as_place, machine_at};
 ghost use Rattle.population.specs.Refusals.{number_of, refused, Found};
 
 use machine::Answer;
@@ -89,7 +89,7 @@ impl From<[u32; 2]> for Counts {
 }
 
 impl From<Counts> for [u32; 2] {
-    ghost from_gives = { λ counts place. place ≡ place_of counts };
+    ghost from_gives = { λ counts place. place ≡ as_place counts };
 
     fn from(counts: Counts) -> [u32; 2] {
         [counts.next, counts.live]

@@ -11,7 +11,7 @@ use machine::State;
 use std::io;
 use std::io::Write;
 
-// The line of an answer's code, which the calls on lent memory answer too: 0 done, 1 delivered, 2 held, any other a refusal.
+// Functions and no Display: neither a code nor a State is a type of this crate. The line of an answer's code, which the calls on lent memory answer too: 0 done, 1 delivered, 2 held, any other a refusal.
 fn print_answer<W: Write>(out: &mut W, code: u8) -> io::Result<()>
     ensures { OnOk result (Appends (W.contents out.old) (W.contents out.new) (answer_line code)) }
 {

@@ -18,8 +18,7 @@ fn print_read<W: Write>(out: &mut W, plan: Plan, policy: Policy) -> io::Result<(
 
 // Which text is refused, with number and line.
 fn print_refused<W: Write>(out: &mut W, text: &str, refused: Refused) -> io::Result<()> {
-    let number = u8::from(refused.refusal);
-    writeln!(out, "{text} {number} {}", refused.line)
+    writeln!(out, "{text} {} {}", refused.number(), refused.line)
 }
 
 fn print_policy<W: Write>(out: &mut W, plan: Plan, policy_text: &[u8]) -> io::Result<()> {

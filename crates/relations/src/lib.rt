@@ -1,5 +1,6 @@
 // Both tag relations by searches over the lent layout of a plan (crate layout). Each search that a relation names is made,
-// whatever the others found (document 02, U13, counts them).
+// whatever the others found (document 02, U13, counts them). A layout and an assertion are handed on
+// beside one another here and above: a struct of both would be made for each assertion and hold no fact of its own.
 #![tactic(auto)]
 
 ghost use Rattle.std.specs.Prelude.{◌≡◌, ◌<◌};

@@ -6,7 +6,7 @@ use std::io;
 
 fn main(rt: HostRuntime) -> io::Result<()> {
     console::with_pair(&rt, b"plan.txt", b"policy.txt", |plan, policy| {
-        let mut room = [0; script::TEXT_ROOM];
+        let mut room = [0; script::CALLS_ROOM];
         let text = console::read_file(&rt, b"calls.txt", &mut room)?;
         transcript::print_replay(&mut io::writer(&rt), plan, policy, text)
     })

@@ -8,8 +8,8 @@ ghost use Rattle.route.specs.Lent.{laid};
 
 use mask::Mask;
 
-// A plan laid out: the successors of each template, the masks of what each creates, and the forks. Rows of their own, since a
-// search reads the successors alone.
+// A plan laid out: the successors of each template, the masks of what each creates, and the forks. Rows of their own and no row
+// of structs: a search, nearly all of the judge's time, reads the successors alone, which then lie in two lines of memory.
 #[derive(Clone, Copy)]
 pub struct Layout {
     pub first: [u8; 64],
@@ -41,7 +41,7 @@ pub struct Forks {
     pub passing: u64,
 }
 
-// m with the template x, where x is wanted and a place of a plan.
+// m with the template x, where x is wanted and a place of a plan: its definition's own parameters.
 #[tactic(auto, using(crate::proofs::Steps::included, crate::proofs::Steps::not_included))]
 pub fn include(m: u64, x: u8, wanted: bool) -> u64
     ensures { result ≡ including m x wanted }

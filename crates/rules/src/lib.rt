@@ -30,6 +30,7 @@ pub struct Breach {
     pub identifier: u8,
 }
 
+// Document 01's three, of which the believed definitions speak; in the code a check of rules answers a Result.
 #[derive(Clone, Copy, PartialEq, Eq)]
 pub enum Verdict {
     Accepted,

@@ -9,7 +9,8 @@ use dispatch::Call;
 use planrow::WORDS;
 use population::Counts;
 
-// The calls in order, as many as there are words and places for: how many.
+// The calls in order, as many as there are words and places for: how many. A count, here and in the crates above, and no slice of the
+// answers: the clause tells of the whole row.
 pub fn run_calls(
     row: &[u32; WORDS],
     counts: &mut Counts,
@@ -27,7 +28,7 @@ pub fn run_calls(
 {
     let (threes, _) = calls.as_chunks::<3>();
     let n = threes.len().min(answers.len());
-    // The answers by an index: of a slice that a zip writes a proof knows nothing afterwards.
+    // The answers by an index: of what is written through a zip no proof knows anything afterwards.
     for (i, &words) in threes[..n].iter().enumerate() {
         let call = Call::from(words);
         let answer = dispatch::run_call(row, counts, serials, templates, labels, tags, call);

@@ -1,7 +1,8 @@
-// The text of calls: a line for each (crate callline), ended by byte 10. A call becomes three words: its kind and its two numbers.
+// The text of calls: a line for each (crate callline), ended by byte 10. A call becomes three words: its kind and its two numbers,
+// since the exported replay takes its calls so.
 #![tactic(auto)]
 
-ghost use Rattle.std.specs.Prelude.{◌≤◌, ◌≡◌, length};
+ghost use Rattle.std.specs.Prelude.{◌≤◌, length};
 
 use dispatch::Call;
 
@@ -12,7 +13,7 @@ const LONGEST: usize = 65536;
 pub const WORD_ROOM: usize = 24576;
 
 // Room for a text of calls: more than it may have bytes, so that a text that is too long is seen to be.
-pub const TEXT_ROOM: usize = 131072;
+pub const CALLS_ROOM: usize = 131072;
 
 // The words of the calls, and the line after them where that is no call.
 #[derive(Clone, Copy)]

@@ -13,7 +13,8 @@ ghost use Rattle.spawning.specs.Spawning.{skipping, Entered, Room, Advanced};
 use plan::UpToTwo;
 use population::Child;
 
-// The process at place k goes: those above it, up to the last, move down.
+// The process at place k goes: those above it, up to the last, move down. That m is at most 32 is a premise here and below of what the
+// arrays mean, and no type: for more identifiers a place has no room, and each function does something all the same.
 fn leave(
     m: u32,
     k: u32,

@@ -9,7 +9,7 @@ ghost use Rattle.machine.specs.State.{machine_of, blank_state, root_state, start
 use machine::{Started, State};
 use plan::{Plan, Template};
 
-// The plan that a refused text hands back.
+// The plan that a refused text hands back. No Default: its definition stands in crate text, above the type.
 fn no_plan() -> Plan
     ensures { result ≡ no_plan }
 {

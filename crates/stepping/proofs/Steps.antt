@@ -22,7 +22,7 @@ use Rattle.machine.specs.State.{Cells, placed, processes_of, machine_from, unles
 use Rattle.machine.proofs.Outcomes.{settled_refused, settled_done}
 use Rattle.machine.proofs.Places.{remove_at}
 use Rattle.machine.proofs.Templates.{successors_fit, children_fit, plan_few}
-use Rattle.population.specs.Refusals.{Among}
+use Rattle.population.specs.Refusals.{AmongFirst}
 use Rattle.population.specs.declared.Counts.{Counts}
 use Rattle.population.specs.Arrays.{cells}
 use Rattle.population.specs.Lent.{counts, outcome_from, unless_step, Tried}
@@ -145,7 +145,7 @@ module _ (row : List ℕ) (next live : ℕ) (c : Cells) (k branch : ℕ) (h : k 
 
 -- ---- 21 and the rest
 
-module _ (row : List ℕ) (next live : ℕ) (xs ts ls gs : List ℕ) (serial branch : ℕ) (sized : length xs ≡ 128) (k : ℕ) (at-k : Among xs live serial k) where
+module _ (row : List ℕ) (next live : ℕ) (xs ts ls gs : List ℕ) (serial branch : ℕ) (sized : length xs ≡ 128) (k : ℕ) (at-k : AmongFirst xs live serial k) where
   abbrev c : Cells
   c = cells xs ts ls gs
 

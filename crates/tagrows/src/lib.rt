@@ -2,7 +2,7 @@
 // past an end.
 #![tactic(auto)]
 
-ghost use Rattle.std.specs.Prelude.{◌≡◌, ℕ, ◌<◌, ◌≤◌, ◌+◌, ◌*◌, min, get_or, length};
+ghost use Rattle.std.specs.Prelude.{◌≡◌, ℕ, ◌+◌, ◌*◌, min, get_or};
 ghost use Rattle.std.specs.Slice.{IsGetRangeResult};
 ghost use Rattle.lists.specs.Numbers.{tabulate};
 ghost use Rattle.lists.specs.Writes.{written};
@@ -44,8 +44,8 @@ fn child_tag(serial: u32, creates: u32, parent: u32, i: u32) -> u32
     if creates.contains(i) { serial } else { parent }
 }
 
-// Writes the 32 tags of a child from a place on, the last 32 where fewer are there. After a write through `iter_mut` of a slice a
-// proof knows no element.
+// Writes the 32 tags of a child from a place on, the last 32 where fewer are there. By index: of what is written through a
+// zip no proof knows anything afterwards.
 pub fn write_row(tags: &mut [u32; 4096], from: usize, parent: [u32; 32], creates: u32, serial: u32)
     ensures { (j : ℕ) → get_or tags.new j 0 ≡ written tags.old (min from 4064) 32 (λ i. child_tag serial creates (get_or parent i 0) i) j }
 {

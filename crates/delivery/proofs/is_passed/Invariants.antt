@@ -1,6 +1,7 @@
-use Rattle.std.proofs.Common.{◌≡◌, length}
-use Rattle.delivery.proofs.Passed.{clear_to}
+use Rattle.std.proofs.Common.{◌≡◌}
+use Rattle.lists.specs.Numbers.{every}
+use Rattle.delivery.proofs.Passed.{clear}
 use Rattle.delivery.proofs.is_passed.Given as goal
 
 abbrev pub invariant-loop-i : goal.invariant-loop-i
-invariant-loop-i l = l.agreed ≡ clear_to l.label l.receiver l.sent l.held (length l.yielded)
+invariant-loop-i l = l.agreed ≡ every l.i (clear l.label l.receiver l.sent l.held)
