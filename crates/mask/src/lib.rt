@@ -69,7 +69,7 @@ impl Mask for u32 {
     ghost narrow_enough = { Prim.search rules };
 
     fn widen(self) -> u64 {
-        self as u64
+        u64::from(self)
     }
 
     fn narrow(wide: u64) -> u32 {

@@ -1,33 +1,22 @@
--- Digits as the loops meet them: the table of powers, the width of a number, and a turn of the loop that writes.
+-- Digits as the code meets them: the width of a number by its logarithm, and a turn of the loop that writes.
 use Prim.Native.Nat.{ℕ, zero, suc, ◌+◌, ◌-◌, ◌*◌, ◌/◌, ◌%◌, ◌^◌, ◌≤◌, ◌<◌, suc-le-suc}
 use mathlib.Core.Path.{◌≡◌, refl, sym, ap, ap₂, ◌∙◌, subst}
-use mathlib.Core.Bool.{Bool, true, false}
-use mathlib.Core.List.{List, [], ◌∷◌}
+use mathlib.Core.Bool.{Bool, false}
+use mathlib.Core.List.{List}
 use mathlib.Core.Logic.{⊎_elim}
-use native.Mathlib.Nat.{mod-lt, div-lt_iff_lt-mul, one-le-pow, zero-lt-suc, eq-or-lt_of_le, le_trans, pow-suc, mul_comm}
+use native.Mathlib.Nat.{mod-lt, pow-le-pow_right, div-lt_iff_lt-mul, one-le-pow, zero-lt-suc, eq-or-lt_of_le, le_trans, pow-suc, mul_comm}
 use native.Mathlib.Numerals.{add-one}
 use native.Mathlib.Omega.{arith}
-use lib.ListN.{length, get_or, set}
+use lib.ListN.{length, set}
 use lib.Seq.{sets}
-use lib.Dec.{ltb, eqb}
-use borrow.Author.Tests.{lt-ltb, le-ltb, ltb-true, eqb-true}
-use Rattle.lists.specs.Numbers.{every, any, lowest}
+use lib.Dec.{ltb}
+use borrow.Author.Tests.{lt-ltb, le-ltb, ltb-true}
+use Rattle.std.specs.Prelude.{Option, None, Some, IfNone, IfSome}
+use Rattle.std.specs.Option.{MatchOption}
+use Rattle.lists.specs.Numbers.{lowest}
 use Rattle.lists.proofs.Tests.{lt_or_le, passes_fails}
-use Rattle.lists.proofs.Every.{every_at, any_at, any_more}
-use Rattle.lists.proofs.Lowest.{lowest_le, lowest-holds, lowest-below, lowest_hit, lowest_none}
+use Rattle.lists.proofs.Lowest.{lowest_le, lowest-holds, lowest-below, lowest_is, lowest_none}
 use Rattle.numerals.specs.Numerals.{numeral, spell, decimal_width, decimal_of}
-
--- ---- the table
-
-abbrev pub powers : List ℕ
-powers = 1 ∷ 10 ∷ 100 ∷ 1000 ∷ 10000 ∷ 100000 ∷ 1000000 ∷ 10000000 ∷ 100000000 ∷ 1000000000 ∷ []
-
-table : every 10 (λ k. eqb (get_or powers k 0) (10 ^ k)) ≡ true
-unfolding every
-table = refl
-
-pub power_is : (k : ℕ) → k < 10 → get_or powers k 0 ≡ 10 ^ k
-power_is k h = eqb-true (get_or powers k 0) (10 ^ k) (every_at 10 (λ k. eqb (get_or powers k 0) (10 ^ k)) table k h)
 
 -- ---- the width of n
 
@@ -36,19 +25,31 @@ abbrev pub room_in : ℕ → ℕ → Bool
 room_in n w = ltb n (10 ^ suc w)
 
 module _ (n : ℕ) where
-  pub width_found : (w p : ℕ) → w < 9 → any w (room_in n) ≡ false → p ≡ 10 ^ (w + 1) → n < p → w + 1 ≡ decimal_width n
-  unfolding decimal_width
-  width_found w p h f e l =
-      let q : n < 10 ^ suc w = subst (λ (k : ℕ). n < k) (e ∙ ap (λ (k : ℕ). 10 ^ k) (add-one w)) l in
-      add-one w ∙ ap suc (lowest_hit 9 (room_in n) w h f (lt-ltb n (10 ^ suc w) q))
+  -- A number of more than k digits has no room in k.
+  less_room : (k : ℕ) → 10 ^ k ≤ n → (i : ℕ) → i < k → room_in n i ≡ false
+  less_room k l i h = le-ltb n (10 ^ suc i) (le_trans (pow-le-pow_right (zero-lt-suc 9) h) l)
 
-  pub width_more : (w p : ℕ) → any w (room_in n) ≡ false → p ≡ 10 ^ (w + 1) → p ≤ n → any (w + 1) (room_in n) ≡ false
-  width_more w p f e l =
-      any_more w (room_in n) f (le-ltb n (10 ^ suc w) (subst (λ (k : ℕ). k ≤ n) (e ∙ ap (λ (k : ℕ). 10 ^ k) (add-one w)) l))
-
-  pub width_most : (w : ℕ) → 9 ≤ w → any w (room_in n) ≡ false → 10 ≡ decimal_width n
+  width_of_log : (k : ℕ) → k < 10 → 10 ^ k ≤ n → n < 10 * 10 ^ k → k + 1 ≡ decimal_width n
   unfolding decimal_width
-  width_most w h f = sym (ap suc (lowest_none 9 (room_in n) (λ i l. any_at w (room_in n) f i (le_trans l h))))
+  width_of_log k h l m =
+      add-one k ∙ ap suc (sym (⊎_elim below most (lt_or_le k 9)))
+    where
+      below : k < 9 → lowest 9 (room_in n) ≡ k
+      below q = lowest_is 9 (room_in n) k q (lt-ltb n (10 ^ suc k) (subst (λ (p : ℕ). n < p) (mul_comm 10 (10 ^ k) ∙ sym (pow-suc 10 k)) m)) (less_room k l)
+
+      most : 9 ≤ k → lowest 9 (room_in n) ≡ k
+      most q = let e : 9 ≡ k = omega (arith, q, h) in lowest_none 9 (room_in n) (λ i r. less_room k l i (le_trans r q)) ∙ e
+
+  width_of_none : n ≡ 0 → 1 ≡ decimal_width n
+  unfolding decimal_width lowest
+  width_of_none e = rw e refl
+
+  -- From the logarithm, which 0 has none of; P is what the closure answers of it.
+  pub width_of : (log : Option ℕ) (r : ℕ) (P : ℕ → Type 0)
+      → IfNone log (n ≡ 0) → IfSome log (λ k. 10 ^ k ≤ n) → IfSome log (λ k. n < 10 * 10 ^ k) → IfSome log (λ k. k < 10)
+      → ((k : ℕ) → k < 10 → P k → r ≡ k + 1) → MatchOption log (r ≡ 1) P → r ≡ decimal_width n
+  width_of None r P e l m h says q = q ∙ width_of_none e
+  width_of (Some k) r P e l m h says q = says k h q ∙ width_of_log k h l m
 
   pub width_le : decimal_width n ≤ 10
   unfolding decimal_width

@@ -6,29 +6,11 @@ ghost use Rattle.std.proofs.lemmas.List.Edits.{sets};
 ghost use Rattle.numerals.specs.Numerals.{spell, decimal_width, decimal_of};
 ghost use Rattle.numerals.specs.Places.{fitting};
 
-// The powers of ten that a u32 holds.
-const POWERS: [u32; 10] = [
-    1, 10, 100, 1000, 10000, 100000, 1000000, 10000000, 100000000, 1000000000,
-];
-
-#[tactic(auto, using(crate::proofs::Digits::power_is))]
-fn power(k: usize) -> u32
-    requires { k < 10 }
-    ensures { result ≡ 10 ^ k }
-{
-    POWERS[k]
-}
-
 // How many decimal digits n has.
 fn decimal_width(n: u32) -> usize
     ensures { result ≡ decimal_width n }
 {
-    for w in 0..9 {
-        if n < power(w + 1) {
-            return w + 1;
-        }
-    }
-    10
+    n.checked_ilog10().map_or(1, |log| log as usize + 1)
 }
 
 // Writes so many decimal digits of n, the highest first.
@@ -39,7 +21,7 @@ fn write_digits(out: &mut [u8], at: usize, width: usize, n: u32)
 {
     let mut rest = n;
     for i in 0..width {
-        let p = power(width - 1 - i);
+        let p = 10u32.pow((width - 1 - i) as u32);
         out[at + i] = b'0' + (rest / p) as u8;
         rest %= p;
     }

@@ -1,16 +1,8 @@
--- No width below the one that the loop has reached has room for the number.
-use Rattle.lists.proofs.Every.{any_none}
-use Rattle.numerals.proofs.Digits.{width_found, width_more, width_most}
+-- One digit more than the logarithm, and one digit for 0.
+use Rattle.std.proofs.Common.{rules}
+use Rattle.numerals.proofs.Digits.{width_of}
 use Rattle.numerals.proofs.decimal_width.Goals as goal
 
-pub loop-w-init : goal.loop-w-init
-loop-w-init c = search any_none
-
-pub returns-then-n-power : goal.returns-then-n-power
-returns-then-n-power c = search width_found
-
-pub loop-w-preserved : goal.loop-w-preserved
-loop-w-preserved c = search width_more
-
 pub returns : goal.returns
-returns c = search width_most
+returns c = let log = c.checked_ilog10.ensures in
+    width_of _ _ _ _ log.none log.power_le log.next_power_gt log.bound (λ k h p. search rules) c.map_or.ensures

@@ -5,7 +5,7 @@ use Rattle.numerals.proofs.write_digits.Goals as goal
 
 pub loop-i-preserved : goal.loop-i-preserved
 loop-i-preserved c = let l = c.loop-i in
-    (rest_room _ _ _ _ c.loop-i-test.true c.power-p.ensures l.invariant.0, turn _ _ _ _ c.loop-i-test.true c.power-p.ensures l.invariant.0 _ _ ∙ l.invariant.1)
+    (rest_room _ _ _ _ c.loop-i-test.true c.pow-p.ensures l.invariant.0, turn _ _ _ _ c.loop-i-test.true c.pow-p.ensures l.invariant.0 _ _ ∙ l.invariant.1)
 
 pub returns : goal.returns
 returns c = let l = c.loop-i in none_left _ _ _ _ _ c.loop-i-test.false ∙ l.invariant.1
