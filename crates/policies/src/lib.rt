@@ -33,14 +33,14 @@ fn read_assertion(lines: &mut Lines, n: u8) -> Result<Assertion, Refused>
 }
 
 // The lines of all k assertions over n templates. Not one function with the lines of all templates: a closure would borrow the
-// lines and the names, and be no plainer than a loop. By index: what a loop over `iter_mut` wrote no proof knows after it.
+// lines and the names, and be no plainer than a loop.
 fn read_assertions(lines: &mut Lines, n: u8, k: u8) -> Result<[Assertion; 32], Refused>
     requires { k ≤ 32 }
     ensures { Gives (λ row. row) (assertion_row n k (standing lines.old)) (standing lines.new) result }
 {
     let mut assertions = [Assertion::default(); 32];
-    for i in 0..k as usize {
-        assertions[i] = read_assertion(lines, n)?;
+    for a in assertions[..k as usize].iter_mut() {
+        *a = read_assertion(lines, n)?;
     }
     Ok(assertions)
 }

@@ -1,6 +1,6 @@
 -- Rules 18 and 19 by masks: the identifiers that are parted, as a loop finds them, and the lowest of both rules'
 -- offenders, at which the walk over the identifiers stops.
-use Prim.Native.Nat.{ℕ, zero, suc, ◌+◌, ◌^◌, ◌≤◌, ◌<◌, min}
+use Prim.Native.Nat.{ℕ, zero, suc, ◌+◌, ◌^◌, ◌≤◌, ◌<◌, min, suc-le-suc}
 use mathlib.Core.Path.{◌≡◌, refl, sym, ap, subst, ◌∙◌}
 use mathlib.Core.Logic.{◌⊎◌, ⊎_elim, inl, inr}
 use mathlib.Core.Bool.{Bool, true, false, not, cond, ◌&&◌, true≢false, false≢true}
@@ -9,10 +9,11 @@ use native.Mathlib.Omega.{arith}
 use lib.Dec.{ltb}
 use lib.Bits.{bit_and, bit_or}
 use borrow.Author.Tests.{lt-ltb, le-ltb, ltb-true}
+use Rattle.std.specs.Prelude.{Option, Some, None}
 use Rattle.std.specs.List.{fold, range_with_len}
 use Rattle.lists.specs.Numbers.{lowest}
 use Rattle.lists.proofs.Tests.{bool?, lt_or_le, passes_fails, same_test, and_left, and_right, and_of, or_none, or_cases}
-use Rattle.lists.proofs.Lowest.{lowest_le, lowest-holds, lowest-below}
+use Rattle.lists.proofs.Lowest.{lowest-holds, lowest-below}
 use Rattle.mask.specs.Mask.{has, without, plus}
 use Rattle.mask.specs.Sets.{plus_below}
 use Rattle.mask.proofs.Items.{has_or, has_and, has-without, has_none, plus-has, plus-within, plus_cases, plus-below}
@@ -22,6 +23,8 @@ use Rattle.rules.specs.declared.Verdict.TheVariants.{Accepted}
 use Rattle.rules.specs.Judge.{broken, first_below}
 use Rattle.rules.specs.Broken.{tested}
 use Rattle.rules.proofs.Walk.{below_all, below_broken}
+use Rattle.offenders.specs.Lowest.{lowest_of}
+use Rattle.offenders.proofs.Masks.{some_lowest, none_lowest}
 use Rattle.prot.specs.declared.Labels.{Labels}
 use Rattle.prot.specs.Lent.{prot_by, Picked}
 
@@ -103,15 +106,18 @@ module _ (place : ℕ) (a : Assertion) (t : ℕ) where
   offending true false s h = refl
   offending false k s h = absurd (⊎_elim false≢true false≢true h)
 
-module _ (labels : Labels) (place : ℕ) (a : Assertion) (parts : ℕ → Bool) (bare low end split t : ℕ)
+module _ (labels : Labels) (place : ℕ) (a : Assertion) (parts : ℕ → Bool) (bare low end split : ℕ) (o : Option ℕ)
     (b : bare ≡ without labels.source labels.sink) (l : low ≡ lowest 32 (λ j. has j bare)) (m : end ≡ min labels.limit low)
     (p : Picked (bit_and labels.source labels.sink) parts end split)
-    (e : t ≡ lowest 32 (λ j. has j (bit_or bare split))) where
+    (e : o ≡ lowest_of labels.limit (λ j. has j (bit_or bare split))) (wide : labels.source < 2 ^ 32) where
   abbrev L : ℕ → Bool
   L j = has j labels.source
 
   abbrev K : ℕ → Bool
   K j = has j labels.sink
+
+  abbrev U : ℕ → Bool
+  U j = has j (bit_or bare split)
 
   bare_at : (j : ℕ) → has j bare ≡ (L j && not (K j))
   bare_at j = ap (has j) b ∙ has-without j labels.source labels.sink
@@ -119,53 +125,45 @@ module _ (labels : Labels) (place : ℕ) (a : Assertion) (parts : ℕ → Bool) 
   split_at : (j : ℕ) → has j split ≡ (ltb j end && ((L j && K j) && parts j))
   split_at j = p.each j ∙ ap (λ (x : Bool). ltb j end && (x && parts j)) (has_and j labels.source labels.sink)
 
-  neither : (j : ℕ) → j < t → (has j bare ≡ false) × (has j split ≡ false)
-  neither j h =
-      or_none (has j bare) (has j split) (sym (has_or j bare split) ∙ lowest-below 32 (λ j. has j (bit_or bare split)) j (subst (λ (k : ℕ). j < k) e h))
+  neither : (j : ℕ) → j < lowest labels.limit U → (has j bare ≡ false) × (has j split ≡ false)
+  neither j h = or_none (has j bare) (has j split) (sym (has_or j bare split) ∙ lowest-below labels.limit U j h)
 
-  within : t ≤ 32
-  within = subst (λ (k : ℕ). k ≤ 32) (sym e) (lowest_le 32 (λ j. has j (bit_or bare split)))
+  -- Where the walk goes on past low, low is 32, and no label has more.
+  past : (j : ℕ) → j < lowest labels.limit U → low ≤ j → L j ≡ false
+  past j h g = ⊎_elim
+      (λ k. absurd (passes_fails (has low bare)
+      (ap (λ (n : ℕ). has n bare) l ∙ lowest-holds 32 (λ j. has j bare) (subst (λ (n : ℕ). n < 32) l k))
+      (neither low (le_trans (suc-le-suc g) h)).0))
+      (λ k. has_past 32 labels.source j wide (le_trans k g)) (lt_or_le low 32)
 
-  -- Before 18's lowest.
-  no_later : t ≤ low
-  no_later = ⊎_elim
-      (λ h. absurd (passes_fails (has low bare)
-      (ap (λ (k : ℕ). has k bare) l ∙ lowest-holds 32 (λ j. has j bare) (subst (λ (k : ℕ). k < 32) l (le_trans h within)))
-      (neither low h).0))
-      (λ h. h) (lt_or_le low t)
-
-  quiet : (j : ℕ) → j < t → j < labels.limit → prot_by labels place a parts j ≡ Accepted
+  quiet : (j : ℕ) → j < lowest labels.limit U → j < labels.limit → prot_by labels place a parts j ≡ Accepted
   unfolding prot_by
-  quiet j h k =
-      let n = neither j h in
-      let w = no_later in
+  quiet j h k = ⊎_elim
+      (λ g. let n = neither j h in
       let low-enough : j < end = omega (arith, m) in
       calm place a j (L j) (K j) (parts j) (sym (bare_at j) ∙ n.0)
-      (sym (ap (λ (x : Bool). x && ((L j && K j) && parts j)) (lt-ltb j end low-enough)) ∙ sym (split_at j) ∙ n.1)
+      (sym (ap (λ (x : Bool). x && ((L j && K j) && parts j)) (lt-ltb j end low-enough)) ∙ sym (split_at j) ∙ n.1))
+      (λ g. ap (λ (x : Bool). tested place a j x (K j) (parts j)) (past j h g)) (lt_or_le j low)
 
-  prot_past : labels.limit ≤ t → Accepted ≡ first_below labels.limit (prot_by labels place a parts)
-  prot_past h = sym (below_all labels.limit (prot_by labels place a parts) (λ j k. quiet j (le_trans k h) k))
+  pub prot_none : o ≡ None → Accepted ≡ first_below labels.limit (prot_by labels place a parts)
+  prot_none h =
+      let g = none_lowest labels.limit U o e h in
+      sym (below_all labels.limit (prot_by labels place a parts) (λ j k. quiet j (le_trans k g) k))
 
-  prot_wide : labels.source < 2 ^ 32 → 32 ≤ t → Accepted ≡ first_below labels.limit (prot_by labels place a parts)
-  unfolding prot_by
-  prot_wide w h = sym (below_all labels.limit (prot_by labels place a parts) (λ j k. ⊎_elim
-      (λ g. quiet j (le_trans g h) k)
-      (λ g. ap (λ (x : Bool). tested place a j x (K j) (parts j)) (has_past 32 labels.source j w g)) (lt_or_le j 32)))
+  module _ (t : ℕ) (h : o ≡ Some t) where
+    first : (t ≡ lowest labels.limit U) × (t < labels.limit)
+    first = some_lowest labels.limit U o e t h
 
-  pub prot_none : labels.source < 2 ^ 32 → (top : ℕ) → top ≡ min labels.limit 32 → top ≤ t → Accepted ≡ first_below labels.limit (prot_by labels place a parts)
-  prot_none w top q h = ⊎_elim (λ k. prot_wide w (omega arith)) prot_past (lt_or_le t labels.limit)
+    there : prot_by labels place a parts t ≡ broken (cond (K t) 19 18) place a.sink t
+    unfolding prot_by
+    there =
+        let found = sym (has_or t bare split) ∙ ap U first.0 ∙ lowest-holds labels.limit U (subst (λ (k : ℕ). k < labels.limit) first.0 first.1) in
+        offending place a t (L t) (K t) (parts t) (⊎_elim (λ x. inl (sym (bare_at t) ∙ x))
+        (λ x. inr (and_right (ltb t end) ((L t && K t) && parts t) (sym (split_at t) ∙ x))) (or_cases (has t bare) (has t split) found))
 
-  there : t < 32 → prot_by labels place a parts t ≡ broken (cond (K t) 19 18) place a.sink t
-  unfolding prot_by
-  there h =
-      let found = sym (has_or t bare split) ∙ ap (λ (k : ℕ). has k (bit_or bare split)) e ∙ lowest-holds 32 (λ j. has j (bit_or bare split)) (subst (λ (k : ℕ). k < 32) e h) in
-      offending place a t (L t) (K t) (parts t) (⊎_elim (λ x. inl (sym (bare_at t) ∙ x))
-      (λ x. inr (and_right (ltb t end) ((L t && K t) && parts t) (sym (split_at t) ∙ x))) (or_cases (has t bare) (has t split) found))
-
-  pub prot_found : (top : ℕ) → top ≡ min labels.limit 32 → t < top → (rule : ℕ) → rule ≡ cond (has t labels.sink) 19 18
-      → broken rule place a.sink t ≡ first_below labels.limit (prot_by labels place a parts)
-  prot_found top g l rule q =
-      let h : t < 32 = omega arith in
-      let k : t < labels.limit = omega arith in
-      ap (λ (n : ℕ). broken n place a.sink t) q
-      ∙ sym (below_broken labels.limit (prot_by labels place a parts) t _ k (λ j g. quiet j g (lt_trans g k)) (there h))
+    pub prot_found : (rule : ℕ) → rule ≡ cond (has t labels.sink) 19 18
+        → broken rule place a.sink t ≡ first_below labels.limit (prot_by labels place a parts)
+    prot_found rule q =
+        ap (λ (n : ℕ). broken n place a.sink t) q
+        ∙ sym (below_broken labels.limit (prot_by labels place a parts) t _ first.1
+        (λ j g. quiet j (subst (λ (k : ℕ). j < k) first.0 g) (lt_trans g first.1)) there)

@@ -56,10 +56,9 @@ pub fn check_prot(layout: &Layout, labels: Labels, place: u8, a: Assertion) -> R
     let end = labels.limit.min(mask::lowest_item(bare));
     let asked = labels.source & labels.sink;
     let split = find_parted(layout, asked, a, end);
-    let t = mask::lowest_item(bare | split);
-    if labels.limit.min(32) <= t {
+    let Some(t) = offenders::lowest_below(labels.limit, bare | split) else {
         return Ok(());
-    }
+    };
     let rule = rule_at(labels.sink, t);
     Err(Breach {
         rule,
