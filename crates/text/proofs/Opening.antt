@@ -38,23 +38,22 @@ keyed-line empty key read (stopped n k) = refl
 
 -- ---- the field of a line
 
-module _ (key text : List ℕ) (k n : ℕ) (e : n ≡ before 10 text) where
-  pub open_none : length text ≤ n → gone (stopped 2 k) ≡ opened key (on text k)
+pub open_none : (key text : List ℕ) (k : ℕ) → length text ≡ before 10 text → gone (stopped 2 k) ≡ opened key (on text k)
+unfolding opened
+open_none key text k e = rw (← e, le-ltb (length text) (length text) (omega arith), opened)
+
+module _ (key text : List ℕ) (k n : ℕ) (e : n ≡ before 10 text) (h : n < length text) (b : Bool) (d : b ≡ starts_with key (take n text)) where
+  pub open_other : not b ≡ true → gone (stopped 2 k) ≡ opened key (on text k)
   unfolding opened
-  open_none h = rw (← e, le-ltb n (length text) h, opened)
+  open_other q = rw (← e, lt-ltb n (length text) h, told d (not-true b q), opened)
 
-  module _ (h : n < length text) (b : Bool) (d : b ≡ starts_with key (take n text)) where
-    pub open_other : not b ≡ true → gone (stopped 2 k) ≡ opened key (on text k)
+  module _ (q : not b ≡ false) where
+    pub key_fits : length key ≤ n
+    key_fits = let fits = starts_long key (take n text) (told d (not-false b q)) in omega (arith, simp length-take at fits)
+
+    pub open_found : found (take (n - length key) (drop (length key) text)) (take (length text - (n + 1)) (drop (n + 1) text)) k ≡ opened key (on text k)
     unfolding opened
-    open_other q = rw (← e, lt-ltb n (length text) h, told d (not-true b q), opened)
-
-    module _ (q : not b ≡ false) where
-      pub key_fits : length key ≤ n
-      key_fits = let fits = starts_long key (take n text) (told d (not-false b q)) in omega (arith, simp length-take at fits)
-
-      pub open_found : found (take (n - length key) (drop (length key) text)) (take (length text - (n + 1)) (drop (n + 1) text)) k ≡ opened key (on text k)
-      unfolding opened
-      open_found = rw (← e, lt-ltb n (length text) h, told d (not-false b q), opened, rest_of, drop-take)
+    open_found = rw (← e, lt-ltb n (length text) h, told d (not-false b q), opened, rest_of, drop-take)
 
 -- ---- a line answered
 
