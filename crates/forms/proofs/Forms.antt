@@ -1,5 +1,5 @@
 -- Where no comma stands, the second number is empty, so a pair is refused for its layout whatever its first number is.
-use Prim.Native.Nat.{ℕ, ◌+◌, ◌*◌, ◌≤◌}
+use Prim.Native.Nat.{ℕ, ◌+◌, ◌*◌}
 use mathlib.Core.Path.{◌≡◌, refl, sym, ap, ◌∙◌}
 use mathlib.Core.List.{List, [], ◌∷◌}
 use mathlib.Core.Bool.{Bool, true, false, not, cond, ◌&&◌, ◌||◌}
@@ -29,7 +29,7 @@ decimal_refusal s n e = go (ltb 0 (length s) && (leb (length s) 4 && (eqb (lengt
     go true q = digits_refusal 10 0 s n q
     go false q = cc
 
-pub pair_none : (N : ℕ) (f : ℕ → ℕ → Form) (s : List ℕ) → length s ≤ before 44 s → pair N f s ≡ bad 2
+pub pair_none : (N : ℕ) (f : ℕ → ℕ → Form) (s : List ℕ) → length s ≡ before 44 s → pair N f s ≡ bad 2
 unfolding pair and_then
 pair_none N f s h = go (decimal (take (before 44 s) s)) refl
   where

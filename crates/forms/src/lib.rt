@@ -14,10 +14,9 @@ use plan::Form;
 fn read_pair(s: &[u8], n: u8) -> Result<(u8, u8), Refusal>
     ensures { (f : ℕ → ℕ → FormOf) → and_then (field_of result) (λ p. is (f p.0 p.1)) ≡ pair n f s.now }
 {
-    let comma = scan::find(s, b',');
-    if s.len() <= comma {
+    let Some(comma) = scan::find(s, b',') else {
         return Err(Refusal::Layout);
-    }
+    };
     let y = field::read_decimal(&s[..comma])?;
     let z = field::read_decimal(&s[comma + 1..])?;
     let limit = u16::from(n);

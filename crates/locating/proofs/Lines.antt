@@ -51,20 +51,26 @@ one_line text start (suc left) n h e =
     ∙ ap (λ (l : ℕ). cond (ltb (start + n) (length text)) (line_start l (start + n + 1) text) (length text)) k
 
 module _ (text : List ℕ) (skipped start left : ℕ) (s : Skipping text skipped start left) where
-  module _ (h : 0 < left) (n : ℕ) (e : n ≡ before 10 (rest text start)) where
-    pub skip_missing : length text ≤ start + n → length text ≡ line_start skipped 0 text
-    skip_missing g =
-        sym (s.same ∙ one_line text start left n h e
-        ∙ ap (λ (b : Bool). cond b (line_start (left - 1) (start + n + 1) text) (length text)) (le-ltb (start + n) (length text) g))
+  rest_length : length (rest text start) ≡ length text - start
+  rest_length = ap length (rest_of text start) ∙ length-drop start text
 
-    pub skip_line : start + n < length text → (less : ℕ) → left - 1 ≡ less → Skipping text skipped (start + n + 1) less
-    skip_line g less q = record {
-      inside = omega arith;
-      same =
-          s.same ∙ one_line text start left n h e
-          ∙ ap (λ (b : Bool). cond b (line_start (left - 1) (start + n + 1) text) (length text)) (lt-ltb (start + n) (length text) g)
-          ∙ ap (λ (k : ℕ). line_start k (start + n + 1) text) q;
-    }
+  pub skip_missing : 0 < left → length (rest text start) ≡ before 10 (rest text start) → length text ≡ line_start skipped 0 text
+  skip_missing h e =
+      let n : ℕ = length (rest text start) in
+      sym (s.same ∙ one_line text start left n h e
+      ∙ ap (λ (b : Bool). cond b (line_start (left - 1) (start + n + 1) text) (length text)) (le-ltb (start + n) (length text) (omega (arith, rest_length))))
+
+  pub skip_line : 0 < left → (n : ℕ) → n ≡ before 10 (rest text start) → n < length (rest text start) → (less : ℕ) → left - 1 ≡ less → Skipping text skipped (start + (n + 1)) less
+  skip_line h n e g less q =
+      let next : start + n + 1 ≡ start + (n + 1) = omega arith in
+      record {
+        inside = omega (arith, rest_length);
+        same =
+            s.same ∙ one_line text start left n h e
+            ∙ ap (λ (b : Bool). cond b (line_start (left - 1) (start + n + 1) text) (length text)) (lt-ltb (start + n) (length text) (omega (arith, rest_length)))
+            ∙ ap (λ (k : ℕ). line_start k (start + n + 1) text) q
+            ∙ ap (λ (k : ℕ). line_start less k text) next;
+      }
 
   pub skip_done : left ≤ 0 → start ≡ line_start skipped 0 text
   unfolding line_start

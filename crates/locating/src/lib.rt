@@ -17,11 +17,10 @@ fn line_start(text: &[u8], skipped: usize) -> usize
 {
     let mut start = 0;
     for _ in 0..skipped {
-        let end = start + scan::find(&text[start..], b'\n');
-        if text.len() <= end {
+        let Some(length) = scan::find(&text[start..], b'\n') else {
             return text.len();
-        }
-        start = end + 1;
+        };
+        start += length + 1;
     }
     start
 }
@@ -31,7 +30,8 @@ fn line_end(text: &[u8], start: usize) -> usize
     requires { start ≤ length text.now }
     ensures { result ≡ line_end start text.now }
 {
-    start + scan::find(&text[start..], b'\n')
+    let rest = &text[start..];
+    start + scan::find(rest, b'\n').unwrap_or(rest.len())
 }
 
 // Where the faulty line begins; line 0 is at the text's end.

@@ -1,14 +1,15 @@
 // Bytes of a lent text: looking for one, comparing some, lending some on.
 #![tactic(auto)]
 
-ghost use Rattle.std.specs.Prelude.{◌≡◌, ◌-◌, min, length, take, drop};
+ghost use Rattle.std.specs.Prelude.{◌≡◌, ◌-◌, ◌<◌, min, length, take, drop, unwrap_or, IfSome};
 ghost use Rattle.scan.specs.Bytes.{before, starts_with, same, further};
 
-// How many bytes of s stand before the first b; all of them where there is none, which the definition counts too.
-pub fn find(s: &[u8], b: u8) -> usize
-    ensures { result ≡ before b s.now }
+// Where the first b stands in s.
+pub fn find(s: &[u8], b: u8) -> Option<usize>
+    ensures place { unwrap_or result (length s.now) ≡ before b s.now }
+    ensures inside { IfSome result (λ k. k < length s.now) }
 {
-    s.iter().position(|x| *x == b).unwrap_or(s.len())
+    s.iter().position(|x| *x == b)
 }
 
 // Whether s begins with the bytes of the key.

@@ -7,7 +7,7 @@ use native.Mathlib.Omega.{arith}
 use lib.ListN.{length, take, drop, length-take}
 use denote.Ref.{Bor}
 use Prim.Native.String.{String}
-use Rattle.std.specs.Prelude.{◌==◌, Option, Some, None, Result, Ok, Err, IsErrAnd}
+use Rattle.std.specs.Prelude.{◌==◌, Option, Some, None, Result, Ok, Err, IfSome, IsErrAnd, unwrap_or}
 use borrow.Author.Tests.{lt-ltb, le-ltb, lt-leb, le-leb, eqb-true, not-true, not-false}
 use Rattle.lists.proofs.Tests.{told}
 use Rattle.scan.specs.Bytes.{bytes, before, starts_with}
@@ -38,15 +38,23 @@ keyed-line empty key read (stopped n k) = refl
 
 -- ---- the field of a line
 
-module _ (key text : List ℕ) (k n : ℕ) (e : n ≡ before 10 text) where
-  pub open_none : length text ≤ n → gone (stopped 2 k) ≡ opened key (on text k)
+module _ (key text : List ℕ) (k : ℕ) (o : Option ℕ) (e : unwrap_or o (length text) ≡ before 10 text) where
+  pub open_none : o ≡ None → gone (stopped 2 k) ≡ opened key (on text k)
   unfolding opened
-  open_none h = rw (← e, le-ltb n (length text) h, opened)
+  open_none s =
+      let all : length text ≡ before 10 text = ap (λ (r : Option ℕ). unwrap_or r (length text)) (sym s) ∙ e in
+      rw (← all, le-ltb (length text) (length text) (omega arith), opened)
 
-  module _ (h : n < length text) (b : Bool) (d : b ≡ starts_with key (take n text)) where
+  module _ (i : IfSome o (λ m. m < length text)) (n : ℕ) (s : o ≡ Some n) (b : Bool) (d : b ≡ starts_with key (take n text)) where
+    place : n ≡ before 10 text
+    place = ap (λ (r : Option ℕ). unwrap_or r (length text)) (sym s) ∙ e
+
+    inside : n < length text
+    inside = subst (λ (r : Option ℕ). IfSome r (λ m. m < length text)) s i
+
     pub open_other : not b ≡ true → gone (stopped 2 k) ≡ opened key (on text k)
     unfolding opened
-    open_other q = rw (← e, lt-ltb n (length text) h, told d (not-true b q), opened)
+    open_other q = rw (← place, lt-ltb n (length text) inside, told d (not-true b q), opened)
 
     module _ (q : not b ≡ false) where
       pub key_fits : length key ≤ n
@@ -54,7 +62,7 @@ module _ (key text : List ℕ) (k n : ℕ) (e : n ≡ before 10 text) where
 
       pub open_found : found (take (n - length key) (drop (length key) text)) (take (length text - (n + 1)) (drop (n + 1) text)) k ≡ opened key (on text k)
       unfolding opened
-      open_found = rw (← e, lt-ltb n (length text) h, told d (not-false b q), opened, rest_of, drop-take)
+      open_found = rw (← place, lt-ltb n (length text) inside, told d (not-false b q), opened, rest_of, drop-take)
 
 -- ---- a line answered
 

@@ -43,10 +43,7 @@ impl<'a> Lines<'a> {
         ensures next_line { IfSome result (λ p. p.1.line ≡ self.now.line + 1) }
     {
         let text = self.rest;
-        let end = scan::find(text, b'\n');
-        if text.len() <= end {
-            return None;
-        }
+        let end = scan::find(text, b'\n')?;
         if !scan::starts_with(&text[..end], key) {
             return None;
         }
