@@ -178,10 +178,6 @@ any_capped n k p past =
 
 -- ---- `any`: the turns of a loop (`any_none` at its start)
 
--- One more turn of a loop that leaves where the test passes.
-pub any_more : (n : ℕ) (p : ℕ → Bool) → any n p ≡ false → p n ≡ false → any (n + 1) p ≡ false
-any_more n p e h = ap (λ (k : ℕ). any k p) (add-one n) ∙ any_snoc n p ∙ ap₂ ◌||◌ e h
-
 -- A loop that gathers with `|` and does not leave: one more turn.
 pub any_acc : (n : ℕ) (p : ℕ → Bool) (b : Bool) → b ≡ any n p → (b || p n) ≡ any (n + 1) p
 any_acc n p b e = ap (λ (a : Bool). a || p n) e ∙ sym (any_snoc n p) ∙ ap (λ (k : ℕ). any k p) (sym (add-one n))

@@ -1,5 +1,5 @@
 -- Laws of `lowest`: it is at most the limit, the test passes there where it is less, and fails below it; and it is the
--- only such number. A loop that looks for it keeps `any i p ≡ false`, with `any_none` and `any_more` for its turns.
+-- only such number. A loop that looks for it keeps `any i p ≡ false`, with `any_none` and `any_acc` for its turns.
 use Prim.Native.Nat.{ℕ, zero, suc, ◌≤◌, ◌<◌, suc-le-suc, zero-le}
 use mathlib.Core.Path.{◌≡◌, refl, sym, ap₂}
 use mathlib.Core.Bool.{Bool, true, false, cond}
