@@ -43,7 +43,8 @@ pub fn read_full<'a, R: Read>(input: &mut R, buffer: &'a mut [u8]) -> io::Result
     Ok(&buffer[..n])
 }
 
-// The bytes of the file that the buffer has room for; a missing file counts as empty, and so does any other that cannot be opened.
+// The bytes of the file that the buffer has room for; a missing file counts as empty, and so does any other that cannot be opened. By
+// the name's bytes, as it was always taken: a &str would ask more of a caller.
 pub fn read_file<'a>(rt: &impl Files, path: &[u8], buffer: &'a mut [u8]) -> io::Result<&'a [u8]>
     ensures { IfOk result (λ read. length read.now ≤ length buffer.old) }
 {

@@ -10,7 +10,7 @@ use std::io;
 use std::io::Read;
 use std::rt::Files;
 
-// The value of a hexadecimal digit; any other byte counts as 0.
+// The value of a hexadecimal digit; any other byte counts as 0, a capital too, which std's `to_digit` takes.
 fn digit(b: u8) -> u32 {
     match b {
         b'0'..=b'9' => u32::from(b - b'0'),

@@ -11,7 +11,9 @@ use machine::State;
 use std::io;
 use std::io::Write;
 
-// Functions and no Display: neither a code nor a State is a type of this crate. The line of an answer's code, which the calls on lent memory answer too: 0 done, 1 delivered, 2 held, any other a refusal.
+// Functions and no Display: a newtype for a code and one that lends a State would be two more types, which these functions alone name.
+
+// The line of an answer's code, which the calls on lent memory answer too: 0 done, 1 delivered, 2 held, any other a refusal.
 fn print_answer<W: Write>(out: &mut W, code: u8) -> io::Result<()>
     ensures { OnOk result (Appends (W.contents out.old) (W.contents out.new) (answer_line code)) }
 {
@@ -64,7 +66,7 @@ fn print_names<W: Write>(out: &mut W, serial: u32, template: u32, label: u32) ->
     write!(out, " tags=")
 }
 
-// The tags of a place, of m identifiers.
+// The tags of a place, of m identifiers. That both are within the arrays this one and print_line ask; print_process tests it.
 fn print_row<W: Write>(out: &mut W, tags: &[u32; 4096], place: u32, m: u32) -> io::Result<()>
     requires place { place < 128 }
     requires width { m ≤ 32 }

@@ -16,8 +16,8 @@ use std::io::Write;
 // Room for the bytes of any verdict: the longest has 60.
 pub const ROOM: usize = 64;
 
-// Copies bytes into the list from a place on and answers the place after them. The place is handed on: a struct of it and the buffer
-// would owe in each clause that it still holds the same buffer.
+// Copies bytes into the list from a place on and answers the place after them. The place is handed on, here and in crate numerals: a
+// struct of it and the buffer would owe in each clause that it still holds the same buffer.
 fn append(out: &mut [u8], at: usize, bytes: &[u8]) -> usize
     requires { at + length bytes.now ≤ length out.old }
     ensures { PutAt out.old at bytes.now out.new result }
@@ -76,7 +76,8 @@ fn write_unread(fault: Fault, out: &mut [u8]) -> usize
     append_figure(out, c, b"line=", fault.line)
 }
 
-// How many bytes the verdict has; they stand at the buffer's start, and after them what stood there.
+// How many bytes the verdict has; they stand at the buffer's start, and after them what stood there. A count and no slice: the clause
+// tells of the whole buffer.
 pub fn write_verdict(verdict: Verdict, out: &mut [u8; ROOM]) -> usize
     ensures value { (result ≡ length (printed verdict)) × (out.new ≡ printed verdict ++ drop result out.old) }
     ensures room { result ≤ length out.new }

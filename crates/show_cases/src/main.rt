@@ -8,7 +8,8 @@ ghost use Rattle.rules.specs.Show.{shown};
 use std::io;
 use std::io::Write;
 
-// As the program show does. No crate below both has what they print with: showing stands in the static library, which writes nothing.
+// As the program show does. No crate below both has what they print with: showing stands in the static library, which writes
+// nothing; and a crate for these two lines would be no plainer.
 fn print_case<W: Write>(out: &mut W, plan: &[u8], policy: &[u8]) -> io::Result<()>
     ensures { OnOk result (Appends (W.contents out.old) (W.contents out.new) (shown plan.now policy.now ++ 10 ∷ [])) }
 {
