@@ -71,11 +71,14 @@ pub fn print_figure<W: Write>(out: &mut W, key: &[u8], figure: u64) -> io::Resul
     writeln!(out, "{figure}")
 }
 
-// Two digits of base 16.
+// The digits of base 16.
+const DIGITS: [u8; 16] = *b"0123456789abcdef";
+
+// Two digits of base 16, in one piece: std's `{:02x}` would write a leading zero apart, and each piece is a call of the system.
 pub fn print_hex_byte<W: Write>(out: &mut W, b: u8) -> io::Result<()>
     ensures { OnOk result (Appends (W.contents out.old) (W.contents out.new) (hex_byte_of b)) }
 {
-    write!(out, "{b:02x}")
+    print(out, &[DIGITS[b as usize / 16], DIGITS[b as usize % 16]])
 }
 
 // Eight digits of base 16, byte by byte: of a padded number in base 16 std has the law for a byte alone.

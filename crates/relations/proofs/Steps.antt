@@ -61,9 +61,9 @@ module _ (plan : Plan) (barred via : ℕ) (to : Targets) (x : ℕ) (v : Bool) (a
   unfolding both
   no_way e place = ap (λ (b : Bool). b && has place (reach plan (in_mask barred) x)) (sym asked ∙ not-true v e)
 
-  pub extend_none : not v ≡ true → to ≡ extended plan barred via to x
+  extended_none : not v ≡ true → to ≡ extended plan barred via to x
   unfolding extended
-  extend_none e i = record {
+  extended_none e i = record {
     source = not_widened to.source x (is_way plan barred via to.source.place x) (no_way e to.source.place) i;
     sink = not_widened to.sink x (is_way plan barred via to.sink.place x) (no_way e to.sink.place) i;
   }
@@ -74,14 +74,28 @@ module _ (plan : Plan) (barred via : ℕ) (to : Targets) (x : ℕ) (v : Bool) (a
     way place b h =
         h ∙ ap (has place) reached ∙ sym (ap (λ (u : Bool). u && has place (reach plan (in_mask barred) x)) (sym asked ∙ not-false v e))
 
-    pub extend_some : (a b : Bool) (source sink : Target) → a ≡ has to.source.place m → source ≡ widened to.source x a
+    pub extended_some : (a b : Bool) (source sink : Target) → a ≡ has to.source.place m → source ≡ widened to.source x a
         → b ≡ has to.sink.place m → sink ≡ widened to.sink x b
         → ◌≡◌ {A = Targets} (record { source = source; sink = sink }) (extended plan barred via to x)
     unfolding extended
-    extend_some a b source sink p q h k i = record {
+    extended_some a b source sink p q h k i = record {
       source = (q ∙ ap (widened to.source x) (way to.source.place a p)) i;
       sink = (k ∙ ap (widened to.sink x) (way to.sink.place b h)) i;
     }
+
+-- The same of what is sought in a layout.
+module _ (s : Search) (via x : ℕ) (v : Bool) (asked : v ≡ has x via) where
+  abbrev extension : Search
+  extension = record { layout = s.layout; barred = s.barred; to = extended (laid s.layout.now) s.barred via s.to x }
+
+  pub extend_none : not v ≡ true → s ≡ extension
+  extend_none e = ap (λ (to : Targets). record { layout = s.layout; barred = s.barred; to = to }) (extended_none (laid s.layout.now) s.barred via s.to x v asked e)
+
+  pub extend_some : not v ≡ false → (m : ℕ) → m ≡ reach (laid s.layout.now) (in_mask s.barred) x → (a b : Bool) (source sink : Target)
+      → a ≡ has s.to.source.place m → source ≡ widened s.to.source x a → b ≡ has s.to.sink.place m → sink ≡ widened s.to.sink x b
+      → ◌≡◌ {A = Search} (record { layout = s.layout; barred = s.barred; to = record { source = source; sink = sink } }) extension
+  extend_some e m reached a b source sink p q h k =
+      ap (λ (to : Targets). record { layout = s.layout; barred = s.barred; to = to }) (extended_some (laid s.layout.now) s.barred via s.to x v asked e m reached a b source sink p q h k)
 
 -- What is sought while the loop has found the ways below n.
 abbrev pub seeking : Bor Layout → ℕ → ℕ → ℕ → ℕ → ℕ → Search
@@ -94,11 +108,11 @@ module _ (b : Bor Layout) (barred via S K : ℕ) where
   unfolding targets ways collect
   seeking_none = refl
 
-  pub seeking_more : (n : ℕ) (s : Search) (r : Targets) → s ≡ seeking b barred via S K n → r ≡ extended (laid s.layout.now) s.barred via s.to n
-      → ◌≡◌ {A = Search} (record { layout = s.layout; barred = s.barred; to = r }) (seeking b barred via S K (n + 1))
+  pub seeking_more : (n : ℕ) (s r : Search) → s ≡ seeking b barred via S K n
+      → r ≡ record { layout = s.layout; barred = s.barred; to = extended (laid s.layout.now) s.barred via s.to n } → r ≡ seeking b barred via S K (n + 1)
   unfolding targets ways collect extended widened
   seeking_more n s r e h =
-      ap (λ (to : Targets). record { layout = s.layout; barred = s.barred; to = to }) h
+      h
       ∙ ap (λ (u : Search). record { layout = u.layout; barred = u.barred; to = extended (laid u.layout.now) u.barred via u.to n }) e
       ∙ ap (seeking b barred via S K) (sym (add-one n))
 

@@ -62,20 +62,21 @@ struct Search<'a> {
 }
 
 impl<'a> Search<'a> {
-    // Both targets with template x as one more way, where it is one: one search, if it is one of the templates via.
+    // Both targets with template x as one more way, where it is one: one search, if it is one of the templates via. In place: most
+    // templates are no way, and then nothing is copied.
     #[tactic(auto, using(crate::proofs::Steps::extend_none, crate::proofs::Steps::extend_some))]
-    fn extend(&self, via: u64, x: u8) -> Targets
-        ensures { result ≡ extended (laid self.now.layout.now) self.now.barred via self.now.to x }
+    fn extend(&mut self, via: u64, x: u8)
+        ensures { self.new ≡ record { layout = self.old.layout; barred = self.old.barred; to = extended (laid self.old.layout.now) self.old.barred via self.old.to x } }
     {
-        let to = self.to;
         if !via.contains(x as u32) {
-            return to;
+            return;
         }
+        let to = self.to;
         let m = self.layout.search_from(x, self.barred);
-        Targets {
+        self.to = Targets {
             source: widen(to.source, x, m.contains(to.source.place as u32)),
             sink: widen(to.sink, x, m.contains(to.sink.place as u32)),
-        }
+        };
     }
 
     // For the source and the sink of an assertion, each with all its ways.
@@ -96,7 +97,7 @@ impl<'a> Search<'a> {
             to: Targets { source, sink },
         };
         for x in 0..64u8 {
-            search.to = search.extend(via, x);
+            search.extend(via, x);
         }
         search
     }

@@ -49,12 +49,13 @@ pub fn include(m: u64, x: u8, wanted: bool) -> u64
     if wanted { m.insert(x as u32) } else { m }
 }
 
-// Whether template x is to be entered: a place of a plan, not seen yet and not barred.
+// Whether template x is to be entered: a place of a plan, not seen yet and not barred. All three are asked: a branch on each
+// cannot be foretold, and cost a tenth and more of a search.
 #[tactic(auto, unfolding(crate::specs::Search::is_open, lists::specs::Joins::both))]
 fn is_open(x: u8, barred: u64, seen: u64) -> bool
     ensures { result ≡ is_open (in_mask barred) seen x }
 {
-    x < 64 && !seen.contains(x as u32) && !barred.contains(x as u32)
+    (x < 64) & (!seen.contains(x as u32) & !barred.contains(x as u32))
 }
 
 impl Layout {
