@@ -1,12 +1,13 @@
 -- Refusals 22 to 25, as the code meets them: each callee's result is a variable, and what it ensures a premise.
-use Prim.Native.Nat.{ℕ, ◌+◌, ◌-◌, ◌≤◌, ◌<◌}
+use Prim.Native.Nat.{ℕ, ◌+◌, ◌≤◌, ◌<◌}
 use mathlib.Core.Path.{◌≡◌, refl, sym, ap, ap₂, ◌∙◌}
-use mathlib.Core.Bool.{Bool, true, false, not, cond, ◌&&◌, ◌||◌, and-true}
+use mathlib.Core.Bool.{Bool, true, false, not, cond, ◌&&◌, ◌||◌}
 use mathlib.Core.Logic.{◌⊎◌, inl, inr}
 use native.Mathlib.Omega.{arith}
 use lib.Dec.{ltb, leb, eqb}
 use lib.Bits.{bit_or}
-use Rattle.std.specs.Prelude.{List, length, Option, Some, None, is_some}
+use Rattle.std.specs.Prelude.{List, [], ◌∷◌, length, Option, Some, None, is_some}
+use Rattle.std.specs.List.{list_all}
 use borrow.Author.Tests.{eq-eqb, ne_eqb, leb-true, le-leb, lt-leb, ltb-true, ltb-false, not-false}
 use Rattle.lists.specs.Numbers.{every, all, lowest}
 use Rattle.lists.proofs.Tests.{same_test}
@@ -64,28 +65,34 @@ fits_one M label X Y w o marks e none told =
     past true h = sym (lt-leb M l (ltb-true l M h))
     past false h = sym (le-leb M l (ltb-false l M h))
 
--- One alone.
-pub fits_lone : (b : Bool) → (b && true) ≡ b
-fits_lone b = and-true b
+-- The library's test of each child.
+pub fits_all : (M label : ℕ) (X : Template) (children : List Child)
+    → list_all (λ (child : Child). fitting M label X child.template) children ≡ all_fitting M label X children
+unfolding all all_fitting
+fits_all M label X [] = refl
+fits_all M label X (child ∷ rest) = ap (λ (b : Bool). fitting M label X child.template && b) (fits_all M label X rest)
 
 -- ---- the first that holds
 
 module _ (M next live label : ℕ) (X : Template) (branch : ℕ) (children : List Child) (b : Bool) (eb : b ≡ branch_fits X.form branch) where
-  pub refused_22 : not b ≡ true → Refused 22 ≡ refusal_of M next live label X branch children
+  pub refused_22 : b ≡ false → Refused 22 ≡ refusal_of M next live label X branch children
   unfolding refusal_of
-  refused_22 h = sym (refuse_yes (not (branch_fits X.form branch)) 22 _ (ap not (sym eb) ∙ h))
+  refused_22 h = sym (refuse_yes (not (branch_fits X.form branch)) 22 _ (ap not (sym eb ∙ h)))
 
-  module _ (h : not b ≡ false) (count : ℕ) (ec : count ≡ length children) where
+  module _ (h : b ≡ true) where
+    abbrev count : ℕ
+    count = length children
+
     from_23 : refusal_of M next live label X branch children
         ≡ refuse_if (eqb count 2 && not (leb (live + 1) 128)) 23 (refuse_if (not (leb (next + count) 4294967295)) 24 (refuse_if (not (all_fitting M label X children)) 25 Done))
     unfolding refusal_of
-    from_23 = rw ec (refuse_no (not (branch_fits X.form branch)) 22 _ (ap not (sym eb) ∙ h))
+    from_23 = refuse_no (not (branch_fits X.form branch)) 22 _ (ap not (sym eb ∙ h))
 
-    pub refused_23 : count ≡ 2 → 128 ≤ live → Refused 23 ≡ refusal_of M next live label X branch children
+    pub refused_23 : length children ≡ 2 → 128 ≤ live → Refused 23 ≡ refusal_of M next live label X branch children
     refused_23 two full =
         sym (from_23 ∙ refuse_yes _ 23 _ (ap₂ (λ (a b : Bool). a && not b) (eq-eqb count 2 two) (lt-leb (live + 1) 128 (omega arith))))
 
-    module _ (room : ((count ≡ 2) × (live < 128)) ⊎ (count ≡ 2 → ⊥)) (few : count ≤ 4294967295) where
+    module _ (room : ((length children ≡ 2) × (live < 128)) ⊎ (length children ≡ 2 → ⊥)) where
       from_24 : refusal_of M next live label X branch children
           ≡ refuse_if (not (leb (next + count) 4294967295)) 24 (refuse_if (not (all_fitting M label X children)) 25 Done)
       from_24 = from_23 ∙ refuse_no _ 23 _ (spare room)
@@ -94,15 +101,15 @@ module _ (M next live label : ℕ) (X : Template) (branch : ℕ) (children : Lis
           spare (inl p) = let l = p.1 in ap₂ (λ (a b : Bool). a && not b) (eq-eqb count 2 p.0) (le-leb (live + 1) 128 (omega arith))
           spare (inr n) = ap (λ (a : Bool). a && not (leb (live + 1) 128)) (ne_eqb count 2 n)
 
-      pub refused_24 : 4294967295 - count < next → Refused 24 ≡ refusal_of M next live label X branch children
+      pub refused_24 : 4294967295 < next + length children → Refused 24 ≡ refusal_of M next live label X branch children
       refused_24 l = sym (from_24 ∙ refuse_yes _ 24 _ (ap not (lt-leb (next + count) 4294967295 (omega arith))))
 
-      module _ (l : next ≤ 4294967295 - count) (a : Bool) (ea : a ≡ all_fitting M label X children) where
+      module _ (l : next + length children ≤ 4294967295) (a : Bool) (ea : a ≡ all_fitting M label X children) where
         from_25 : refusal_of M next live label X branch children ≡ refuse_if (not (all_fitting M label X children)) 25 Done
         from_25 = from_24 ∙ refuse_no _ 24 _ (ap not (le-leb (next + count) 4294967295 (omega arith)))
 
-        pub refused_25 : not a ≡ true → Refused 25 ≡ refusal_of M next live label X branch children
-        refused_25 r = sym (from_25 ∙ refuse_yes _ 25 _ (ap not (sym ea) ∙ r))
+        pub refused_25 : a ≡ false → Refused 25 ≡ refusal_of M next live label X branch children
+        refused_25 r = sym (from_25 ∙ refuse_yes _ 25 _ (ap not (sym ea ∙ r)))
 
-        pub refused_none : not a ≡ false → Done ≡ refusal_of M next live label X branch children
-        refused_none r = sym (from_25 ∙ refuse_no _ 25 _ (ap not (sym ea) ∙ r))
+        pub refused_none : a ≡ true → Done ≡ refusal_of M next live label X branch children
+        refused_none r = sym (from_25 ∙ refuse_no _ 25 _ (ap not (sym ea ∙ r)))

@@ -50,39 +50,35 @@ fn is_fitting(m: u32, label: u32, x: Template, y: Template) -> bool
     offenders::lowest_below(m, offences(label, x, y)).is_none()
 }
 
-// The same for none, one or two.
-#[tactic(auto, using(crate::proofs::Refusals::fits_lone), unfolding(crate::specs::Admission::all_fitting, lists::specs::Numbers::all))]
-fn are_fitting(m: u32, label: u32, x: Template, children: UpToTwo<Child>) -> bool
-    ensures { result ≡ all_fitting m label x (listed children) }
+// The same for each of them.
+fn are_fitting(m: u32, label: u32, x: Template, children: &[Child]) -> bool
+    ensures { result ≡ all_fitting m label x children.now }
 {
-    match children {
-        UpToTwo::None => true,
-        UpToTwo::One(y) => is_fitting(m, label, x, y.template),
-        UpToTwo::Two(y, z) => {
-            is_fitting(m, label, x, y.template) && is_fitting(m, label, x, z.template)
-        }
-    }
+    children
+        .iter()
+        .all(|child| is_fitting(m, label, x, child.template))
 }
 
-// The first refusal from 22 to 25 of a process at x, of that label, which is to have those children.
+// The first refusal from 22 to 25 of a process at x, of that label, which is to have those children: any number of them.
+#[tactic(auto, using(crate::proofs::Refusals::refused_22, crate::proofs::Refusals::refused_23, crate::proofs::Refusals::refused_24, crate::proofs::Refusals::refused_25, crate::proofs::Refusals::refused_none))]
 pub fn admit(
     m: u32,
     counts: Counts,
     label: u32,
     x: Template,
     branch: u32,
-    children: UpToTwo<Child>,
+    children: &[Child],
 ) -> Result<(), Refusal>
-    ensures { done_or result ≡ refusal_of m counts.next counts.live label x branch (listed children) }
+    ensures { done_or result ≡ refusal_of m counts.next counts.live label x branch children.now }
 {
     if !is_branch(x.form, branch) {
         return Err(Refusal::NoBranch);
     }
-    let born = children.count();
+    let born = children.len();
     if born == 2 && 128 <= counts.live {
         return Err(Refusal::NoRoom);
     }
-    if u32::MAX - born < counts.next {
+    if ((u32::MAX - counts.next) as usize) < born {
         return Err(Refusal::NoSerial);
     }
     if !are_fitting(m, label, x, children) {

@@ -73,6 +73,10 @@ pub fn attempt(
 {
     let k = population::find(serials, live, serial)?;
     let m = planrow::identifier_count(row);
+    // A row of more than 32 identifiers means a bad state, and no mask has them.
+    if 32 < m {
+        return Err(Refusal::BadState);
+    }
     let t = planrow::template_at(row, templates[k]);
     permit(m, t.risk, movable_of(present, t), identifier)?;
     labels[k] = label_with(present, labels[k], identifier);

@@ -163,6 +163,13 @@ module _ (row : List ℕ) (next live : ℕ) (c : Cells) (well : well_formed box_
   pub formed_identifiers : (plan_for row).identifiers ≡ identifiers_in row
   formed_identifiers = fit_identifiers row (formed_plan (plan_for row) next live c well)
 
+  -- of which there are no more than 32,
+  pub formed_few : (k : ℕ) → k ≡ identifiers_in row → 32 < k → ⊥
+  formed_few k ek h =
+      let few = plan_few (plan_for row) (formed_plan (plan_for row) next live c well) in
+      let is = formed_identifiers in
+      omega (arith, few, is, ek, h)
+
   -- and a template below N is found in the row.
   pub formed_lookup : (X : ℕ) → X < (plan_for row).count → template_at row X ≡ at (plan_for row) X
   formed_lookup X h = fit_lookup row (formed_plan (plan_for row) next live c well) X h

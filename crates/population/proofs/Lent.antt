@@ -3,6 +3,7 @@
 use Prim.Native.Nat.{ℕ, ◌≤◌, ◌<◌}
 use mathlib.Core.Path.{◌≡◌, refl, sym, ap, ◌∙◌, subst}
 use mathlib.Core.Bool.{Bool, true, false, not}
+use mathlib.Core.List.{List}
 use mathlib.Core.Option.{none, some}
 use native.Mathlib.Omega.{arith}
 use lib.Dec.{eqb}
@@ -13,6 +14,8 @@ use Rattle.std.proofs.Common.{slice_range}
 use Rattle.lists.proofs.Lowest.{lowest-holds, lowest_ext}
 use Rattle.lists.proofs.Parts.{first_length, first_at}
 use Rattle.plan.specs.declared.Plan.{Plan}
+use Rattle.planrow.specs.Row.{identifiers_in}
+use Rattle.planrow.specs.Lookup.{plan_for}
 use Rattle.ranges.proofs.Ranges.{first_rises}
 use Rattle.machine.specs.declared.Answer.{Answer}
 use Rattle.machine.specs.declared.Answer.TheVariants.{Done, Delivered, Held, Refused}
@@ -22,7 +25,7 @@ use Rattle.machine.proofs.Places.{find_live, find_gone, places_differ}
 use Rattle.population.specs.declared.Counts.{Counts}
 use Rattle.population.specs.Lent.{counts, machine_at, outcome_from, Same, LabelsAlone, unless_step, Did, Tried}
 use Rattle.population.specs.Refusals.{AmongFirst}
-use Rattle.population.proofs.Fits.{formed_rising, formed_live, formed_serials}
+use Rattle.population.proofs.Fits.{formed_rising, formed_live, formed_serials, formed_few}
 
 -- ---- the ways out of a call
 
@@ -52,6 +55,12 @@ module _ (plan : Plan) (n : Counts) (c : Cells) where
       → (well_formed box_limits (machine_at plan n c) ≡ true → outcome_from plan a n c ≡ answer_to box_limits (machine_at plan n c) call)
       → Tried plan n c call a n c
   tried_same call a w = record { means = w; same = untouched a; others = unless_step_lem call _ alone_none }
+
+-- A row of more than 32 identifiers means a bad state.
+pub tried_wide : (row : List ℕ) (n : Counts) (c : Cells) (call : Call) (k : ℕ) → k ≡ identifiers_in row → 32 < k
+    → Tried (plan_for row) n c call (Refused 20) n c
+tried_wide row n c call k ek h =
+    tried_same (plan_for row) n c call (Refused 20) (λ well. absurd (formed_few row n.next n.live c well k ek h))
 
 -- What is so of any next serial is so of any counts with so many live.
 pub of_live : (P : Counts → Type 0) (live : ℕ) → ((next : ℕ) → P (counts next live)) → (n : Counts) → n.live ≡ live → P n

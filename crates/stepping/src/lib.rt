@@ -2,16 +2,37 @@
 // The lent arrays are parameters of their own: crate population says why.
 #![tactic(auto)]
 
-ghost use Rattle.std.specs.Prelude.{◌<◌, ◌≤◌};
+ghost use Rattle.std.specs.Prelude.{◌≡◌, ◌<◌, ◌≤◌};
+ghost use Rattle.plan.specs.Listed.{listed};
 ghost use Rattle.planrow.specs.Lookup.{plan_for};
 ghost use Rattle.machine.specs.Machine.{step};
 ghost use Rattle.population.specs.Arrays.{cells};
 ghost use Rattle.population.specs.Lent.{Tried};
 ghost use Rattle.population.specs.Refusals.{done_or};
+ghost use Rattle.admission.specs.Admission.{refusal_of};
 ghost use Rattle.stepping.specs.Stepping.{SteppedAt};
 
+use plan::{Template, UpToTwo};
 use planrow::WORDS;
 use population::{Child, Counts, Refusal};
+
+// 22 to 25, asked of the children as a slice.
+fn admit(
+    m: u32,
+    counts: Counts,
+    label: u32,
+    x: Template,
+    branch: u32,
+    children: UpToTwo<Child>,
+) -> Result<(), Refusal>
+    ensures { done_or result ≡ refusal_of m counts.next counts.live label x branch (listed children) }
+{
+    match children {
+        UpToTwo::None => admission::admit(m, counts, label, x, branch, &[]),
+        UpToTwo::One(y) => admission::admit(m, counts, label, x, branch, &[y]),
+        UpToTwo::Two(y, z) => admission::admit(m, counts, label, x, branch, &[y, z]),
+    }
+}
 
 // The step of the process at place k.
 fn step_at(
@@ -37,7 +58,7 @@ fn step_at(
         number: y as u32,
         template: planrow::template_at(row, y as u32),
     });
-    admission::admit(m, *counts, labels[k], t, branch, children)?;
+    admit(m, *counts, labels[k], t, branch, children)?;
     let last = counts.live - 1;
     spawning::advance(
         m,
@@ -73,5 +94,9 @@ pub fn attempt(
         Tried plan counts.old c (step serial branch) (done_or result) counts.new d }
 {
     let k = population::find(serials, counts.live, serial)?;
+    // A row of more than 32 identifiers means a bad state, whose tags have no places.
+    if 32 < planrow::identifier_count(row) {
+        return Err(Refusal::BadState);
+    }
     step_at(row, counts, k, branch, serials, templates, labels, tags)
 }
