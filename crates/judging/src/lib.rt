@@ -22,7 +22,9 @@ pub fn judge_texts(plan: &[u8], policy: &[u8], out: &mut [u8; ROOM]) -> usize
 pub fn print_judged<W: Write>(out: &mut W, plan: &[u8], policy: &[u8]) -> io::Result<()>
     ensures { OnOk result (Appends (W.contents out.old) (W.contents out.new) (printed (judge plan.now policy.now))) }
 {
-    report::print_verdict(out, verdict::judge(plan, policy))
+    let mut text = [0; ROOM];
+    let n = judge_texts(plan, policy, &mut text);
+    console::print(out, &text[..n])
 }
 
 // Prints the verdict on two files.
