@@ -187,6 +187,10 @@ first_at (suc n) f (suc i) h a e =
     first_at n (λ i. f (suc i)) i (le_of_suc-le-suc h) (λ j l. a (suc j) (suc-le-suc l)) e
     ∙ or_second (f zero) (first_below n (λ i. f (suc i))) (a zero (zero-lt-suc i))
 
+-- It leaves: v at i is not accepted.
+pub below_leaves : (n : ℕ) (f : ℕ → Verdict) (i : ℕ) (v : Verdict) → i < n → first_below i f ≡ Accepted → v ≡ f i → (a : Bool) → a ≡ accepted v → a ≡ false → v ≡ first_below n f
+below_leaves n f i v h p e a t q = e ∙ first_at n f i h (below_each i f p) (ap accepted (sym e) ∙ sym t ∙ q)
+
 -- Broken at i, and accepted before: so is the walk.
 pub below_broken : (n : ℕ) (f : ℕ → Verdict) (i : ℕ) (b : Breach) → i < n → ((j : ℕ) → j < i → f j ≡ Accepted) → f i ≡ Broken b → first_below n f ≡ Broken b
 unfolding accepted
