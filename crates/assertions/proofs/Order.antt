@@ -3,11 +3,13 @@
 use Prim.Native.Nat.{ℕ, ◌+◌, ◌≤◌, ◌<◌, min}
 use mathlib.Core.Path.{◌≡◌, refl, sym, ap, subst, ◌∙◌, fun_ext}
 use mathlib.Core.Bool.{Bool, true, false, not, cond, ◌&&◌, ◌||◌, and_assoc, or-false}
+use mathlib.Core.Logic.{◌⊎◌, inl, inr}
 use native.Mathlib.Omega.{arith}
 use lib.Bits.{bit_or}
-use lib.ListN.{length, get_or}
+use lib.ListN.{length}
 use Rattle.std.specs.Prelude.{Result, Ok, Err, IsErrAnd}
 use Rattle.lists.specs.Numbers.{every, any}
+use Rattle.lists.proofs.Tests.{lt_or_le}
 use Rattle.mask.specs.Mask.{has}
 use Rattle.mask.proofs.Items.{has_or}
 use Rattle.plan.specs.declared.Template.{Template}
@@ -26,7 +28,7 @@ use Rattle.rules.specs.declared.Verdict.{Verdict}
 use Rattle.rules.specs.declared.Verdict.TheVariants.{Accepted}
 use Rattle.rules.specs.Judge.{broken, first_below, serves, check_prot, check_assertion, check_assertions, wearable}
 use Rattle.rules.specs.Broken.{answered}
-use Rattle.rules.proofs.Walk.{broken_accepted, below_each, below_none, below_more, below_breaks, below_broken, below_end, below_alike}
+use Rattle.rules.proofs.Walk.{broken_accepted, below_none, below_more, below_breaks, below_end, below_alike}
 use Rattle.secrecy.specs.Lent.{keeps, wearables, joined, serves_by}
 use Rattle.prot.specs.declared.Labels.{Labels}
 use Rattle.prot.specs.Lent.{parted, prot_by}
@@ -97,10 +99,9 @@ module _ (plan : Plan) (policy : Policy) where
   pub all_start : AllSoFar 0
   all_start = record { so_far = below_none each; row = λ h. omega arith }
 
-  module _ (i : ℕ) (s : AllSoFar i) (a : Assertion) (g : a ≡ get_or policy.assertions i blank_assertion) (r : Result (Unit {0}) Breach)
+  module _ (i : ℕ) (s : AllSoFar i) (a : Assertion) (g : a ≡ assertion_at policy i) (r : Result (Unit {0}) Breach)
       (e : answered r ≡ check_assertion plan i a a.kind) where
     here : answered r ≡ each i
-    unfolding assertion_at
     here = e ∙ ap (λ (x : Assertion). check_assertion plan i x x.kind) g
 
     pub all_more : length policy.assertions ≡ 32 → (u : Unit {0}) → r ≡ Ok u → AllSoFar (i + 1)
@@ -125,25 +126,14 @@ module _ (plan : Plan) (policy : Policy) where
     alike : each 32 ≡ Accepted → (i : ℕ) → 32 ≤ i → each i ≡ Accepted
     alike e i h = blank_at i h ∙ blank_alike 32 i (sym (blank_at 32 (omega arith)) ∙ e)
 
-  module _ (i n : ℕ) (s : AllSoFar i) (q : n ≡ min policy.count 32) (l : i ≤ n) (h : n ≤ i) where
-    pub all_end : policy.count ≤ 32 → Accepted ≡ check_assertions plan policy
-    unfolding check_assertions
-    all_end g = below_end policy.count each i (omega arith) (omega arith) s.so_far
+  -- Past the places the first of them was asked, if any.
+  pub all_end : (i n : ℕ) → AllSoFar i → n ≡ min policy.count 33 → i ≤ n → n ≤ i → Accepted ≡ check_assertions plan policy
+  unfolding check_assertions
+  all_end i n s q l h = whole (lt_or_le 0 i)
+    where
+      all_asked : first_below (min policy.count 33) each ≡ Accepted
+      all_asked = let k : i ≡ min policy.count 33 = omega arith in subst (λ (m : ℕ). first_below m each ≡ Accepted) k s.so_far
 
-    -- Past the places the first is asked.
-    pub all_blank : 32 < policy.count → (b : Assertion) → b ≡ blank_assertion → (r : Result (Unit {0}) Breach) → answered r ≡ check_assertion plan 32 b b.kind
-        → answered r ≡ check_assertions plan policy
-    unfolding check_assertions
-    all_blank g b w r e = whole r (e ∙ ap (λ (a : Assertion). check_assertion plan 32 a a.kind) w ∙ sym (blank_at full 32 (omega arith)))
-      where
-        full : length policy.assertions ≡ 32
-        full = s.row (omega arith)
-
-        before : first_below 32 each ≡ Accepted
-        before = let k : i ≡ 32 = omega arith in subst (λ (m : ℕ). first_below m each ≡ Accepted) k s.so_far
-
-        whole : (r : Result (Unit {0}) Breach) → answered r ≡ each 32 → answered r ≡ first_below policy.count each
-        whole (Ok u) e =
-            let k : min policy.count 33 ≡ 33 = omega arith in
-            sym (below_alike policy.count 32 each (alike full) (subst (λ (m : ℕ). first_below m each ≡ Accepted) (sym k) (below_more 32 each before (sym e))))
-        whole (Err d) e = sym (below_broken policy.count each 32 d g (below_each 32 each before) (sym e))
+      whole : (0 < i) ⊎ (i ≤ 0) → Accepted ≡ first_below policy.count each
+      whole (inl some) = sym (below_alike policy.count 32 each (alike (s.row some)) all_asked)
+      whole (inr none) = below_end policy.count each i (omega arith) (omega arith) s.so_far

@@ -60,11 +60,8 @@ pub fn check_assertions(plan: &Plan, policy: &Policy) -> Result<(), Breach>
     ensures { answered result ≡ check_assertions plan.now policy.now }
 {
     let layout = layout::lay_out(plan);
-    for i in 0..plan::capped(policy.count, 32) {
-        check_assertion(&layout, plan, i, policy.assertions[i as usize])?;
+    for i in 0..plan::capped(policy.count, 33) {
+        check_assertion(&layout, plan, i, policy.assertion(i as usize))?;
     }
-    if policy.count <= 32 {
-        return Ok(());
-    }
-    check_assertion(&layout, plan, 32, Assertion::default())
+    Ok(())
 }

@@ -50,14 +50,9 @@ fn mix_assertion(sum: u64, a: Assertion) -> u64 {
 
 // Of a plan, and of a policy: two types, one line each.
 pub fn mix_plan(sum: u64, plan: Plan) -> u64 {
-    plan.templates
-        .iter()
-        .fold(sum, |sum, t| mix_template(sum, *t))
+    (0..64).fold(sum, |sum, x| mix_template(sum, plan.template(x)))
 }
 
 pub fn mix_policy(sum: u64, policy: Policy) -> u64 {
-    policy
-        .assertions
-        .iter()
-        .fold(sum, |sum, a| mix_assertion(sum, *a))
+    (0..32).fold(sum, |sum, i| mix_assertion(sum, policy.assertion(i)))
 }

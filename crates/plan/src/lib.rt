@@ -118,10 +118,12 @@ impl Plan {
 }
 
 impl Policy {
-    // The assertion at that place, blank where the policy has no place for it.
+    // The assertion at that place, blank where the policy has no place for it; and that there are 32 places, which is known where
+    // they are read.
     #[tactic(auto, unfolding(crate::specs::Plan::assertion_at))]
     pub fn assertion(&self, i: usize) -> Assertion
-        ensures { result ≡ assertion_at self.now i }
+        ensures value { result ≡ assertion_at self.now i }
+        ensures row { length self.now.assertions ≡ 32 }
     {
         self.assertions.get(i).copied().unwrap_or_default()
     }
