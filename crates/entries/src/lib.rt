@@ -1,7 +1,7 @@
 // The seven lines of a template: its name, which no template before it has, its form, its masks, whether it is at risk.
 #![tactic(auto)]
 
-ghost use Rattle.std.specs.Prelude.{◌≡◌};
+ghost use Rattle.std.specs.Prelude.{◌≡◌, IfErr};
 ghost use Rattle.std.specs.List.{list_any};
 ghost use Rattle.scan.specs.Bytes.{same};
 ghost use Rattle.field.specs.Fields.{name as name_field};
@@ -33,22 +33,25 @@ fn read_name<'a>(s: &'a [u8], names: &[&[u8]]) -> Result<&'a [u8], Refusal>
     Ok(s)
 }
 
-// The lines of a template of a plan with n templates and m identifiers, after those whose names stood.
+// The lines of a template of a plan with n templates and m identifiers, after those whose names stood; or why one is refused, and
+// reading stays before the first of them.
 pub fn read_entry<'a>(
     lines: &mut Lines<'a>,
     n: u8,
     m: u8,
     names: &[&'a [u8]],
 ) -> Result<(&'a [u8], Template), Refused>
-    ensures { Gives entry_of (entry n m (latest names.now) (standing lines.old)) (standing lines.new) result }
+    ensures answer { Gives entry_of (entry n m (latest names.now) (standing lines.old)) (standing lines.new) result }
+    ensures stays { IfErr result (λ _. lines.new ≡ lines.old) }
 {
-    let name = lines.field(b"name=", |s| read_name(s, names))?;
-    let form = lines.field(b"form=", |s| forms::read_form(s, n))?;
-    let lab = lines.field(b"lab=", |s| field::read_identifiers(s, m))?;
-    let pos = lines.field(b"pos=", |s| field::read_identifiers(s, m))?;
-    let neg = lines.field(b"neg=", |s| field::read_identifiers(s, m))?;
-    let creates = lines.field(b"creates=", |s| field::read_identifiers(s, m))?;
-    let risk = lines.field(b"risk=", keywords::read_risk)?;
+    let mut at = *lines;
+    let name = at.field(b"name=", |s| read_name(s, names))?;
+    let form = at.field(b"form=", |s| forms::read_form(s, n))?;
+    let lab = at.field(b"lab=", |s| field::read_identifiers(s, m))?;
+    let pos = at.field(b"pos=", |s| field::read_identifiers(s, m))?;
+    let neg = at.field(b"neg=", |s| field::read_identifiers(s, m))?;
+    let creates = at.field(b"creates=", |s| field::read_identifiers(s, m))?;
+    let risk = at.field(b"risk=", keywords::read_risk)?;
     let template = Template {
         form,
         lab,
@@ -57,5 +60,6 @@ pub fn read_entry<'a>(
         creates,
         risk,
     };
+    *lines = at;
     Ok((name, template))
 }

@@ -27,7 +27,7 @@ pub struct Refused {
 }
 
 // Where reading stands: the rest of the text, and the number of its first line.
-#[derive(Drop)]
+#[derive(Clone, Copy)]
 pub struct Lines<'a> {
     rest: &'a [u8],
     line: u32,
