@@ -2,13 +2,13 @@
 use Prim.Native.Nat.{ℕ, ◌+◌, ◌-◌, ◌≤◌, ◌<◌}
 use mathlib.Core.Path.{◌≡◌, refl, sym, ap, ◌∙◌, subst}
 use mathlib.Core.List.{List, [], ◌∷◌}
-use mathlib.Core.Bool.{Bool, true, false, not, true≢false}
+use mathlib.Core.Bool.{Bool, true, false, not}
 use native.Mathlib.Omega.{arith}
 use lib.ListN.{length, take, drop, length-take}
 use denote.Ref.{Bor}
 use Prim.Native.String.{String}
-use Rattle.std.specs.Prelude.{◌==◌, Option, Some, None, Result, Ok, Err, IfSome, IsErrAnd, unwrap_or}
-use borrow.Author.Tests.{lt-ltb, le-ltb, lt-leb, le-leb, eqb-true, not-true, not-false}
+use Rattle.std.specs.Prelude.{Option, Some, None, Result, Ok, Err, IfSome, IsErrAnd, unwrap_or}
+use borrow.Author.Tests.{lt-ltb, le-ltb, lt-leb, le-leb, not-true, not-false}
 use Rattle.lists.proofs.Tests.{told}
 use Rattle.scan.specs.Bytes.{bytes, before, starts_with}
 use Rattle.scan.proofs.Parts.{rest_of, drop-take}
@@ -67,9 +67,9 @@ module _ (key text : List ℕ) (k : ℕ) (o : Option ℕ) (e : unwrap_or o (leng
 -- ---- a line answered
 
 module _ {A : Type 0} (Gave : List ℕ → Result A Reason → Type 0) (key text : List ℕ) (k : ℕ) (x : Option (Bor (List ℕ) × Lines)) (o : opened_of k x ≡ opened key (on text k)) where
-  pub missing_answer : (c : Cursor) → x ≡ None → Answered Gave (opened key (on text k)) c (Err (record { refusal = Layout; line = k }))
+  pub missing_answer : (c : Cursor) → x ≡ None → (l : ℕ) → l ≡ k → Answered Gave (opened key (on text k)) c (Err (record { refusal = Layout; line = l }))
   unfolding opened_of Answered
-  missing_answer c e = rw (← o, e) (record { refusal = Layout; line = k }, refl, refl)
+  missing_answer c e l h = rw (← o, e, h) (record { refusal = Layout; line = k }, refl, refl)
 
   module _ (field : Bor (List ℕ)) (next : Lines) (e : x ≡ Some (field, next)) (y : Result A Reason) (g : Gave field.now y) where
     pub refused_answer : (c : Cursor) (z : Reason) → y ≡ Err z → Answered Gave (opened key (on text k)) c (Err (record { refusal = z; line = k }))
@@ -82,23 +82,23 @@ module _ {A : Type 0} (Gave : List ℕ → Result A Reason → Type 0) (key text
 
 -- ---- the two ends
 
-pub long_text : (text : List ℕ) → longest < length text → Started text (Err (record { refusal = TooLong; line = 0 }))
+pub long_text : (text : List ℕ) → longest < length text → (z : Reason) → z ≡ TooLong → Started text (Err (record { refusal = z; line = 0 }))
 unfolding Started
-long_text text h = (lt-leb (length text) longest h, refl)
+long_text text h z e = (lt-leb (length text) longest h, rw e refl)
 
 pub started : (text : Bor (List ℕ)) → length text.now ≤ longest → (room : 1 + length text.now ≤ 16385) → Started text.now (Ok (record { rest = text; line = 1; room = room }))
 unfolding Started
 started text h room = (le-leb (length text.now) longest h, refl)
 
-pub closed_whole : (text : List ℕ) (k : ℕ) (b : Bool) → b ≡ (length text == 0) → b ≡ true → Complete ≡ closed (on text k)
+pub closed_whole : (text : List ℕ) (k : ℕ) → length text ≡ 0 → Complete ≡ closed (on text k)
 unfolding closed
-closed_whole [] k b d e = refl
-closed_whole (x ∷ text) k b d e = let none = eqb-true (length (x ∷ text)) 0 (told d e) in absurd (omega (arith, none))
+closed_whole [] k e = refl
+closed_whole (x ∷ text) k e = absurd (omega (arith, e))
 
-pub closed_extra : (text : List ℕ) (k : ℕ) (b : Bool) → b ≡ (length text == 0) → b ≡ false → Refused (record { number = 2; line = k }) ≡ closed (on text k)
+pub closed_extra : (text : List ℕ) (k : ℕ) → 0 < length text → Refused (record { number = 2; line = k }) ≡ closed (on text k)
 unfolding closed
-closed_extra [] k b d e = absurd (true≢false (sym d ∙ e))
-closed_extra (x ∷ text) k b d e = refl
+closed_extra [] k h = absurd (omega (arith, h))
+closed_extra (x ∷ text) k h = refl
 
 -- ---- as the definition's line
 
