@@ -25,6 +25,11 @@ pub has-suc : (i m : ℕ) → has (suc i) m ≡ has i (m / 2)
 unfolding has
 has-suc i m = ap (λ (x : ℕ). is_one (x % 2)) (ap (λ (y : ℕ). m / y) (pow-succ' 2 i) ∙ sym (div-div-eq-div-mul m 2 (2 ^ i)))
 
+-- The code's way to look for an item.
+pub is_held : (m wide i : ℕ) (b : Bool) → wide ≡ m → b ≡ eqb (wide / 2 ^ i % 2) 1 → b ≡ has i m
+unfolding has
+is_held m wide i b e h = rw (h, e) refl
+
 -- ---- union, intersection, difference
 
 pub has_or : (i a b : ℕ) → has i (bit_or a b) ≡ (has i a || has i b)

@@ -58,20 +58,20 @@ shifted_past k n m h =
 pub one_shifted : (k i : ℕ) → i < k → 1 * 2 ^ i % 2 ^ k ≡ 2 ^ i
 one_shifted k i h = ap (λ (x : ℕ). x % 2 ^ k) (one-mul (2 ^ i)) ∙ mod-eq_of_lt (pow-lt {j = k} h)
 
--- The code's way to add it, in a width of at most w digits.
-module _ (k w m i : ℕ) (h : i < k) (l : k ≤ w) where
-  pub one_added : bit_or m (1 * 2 ^ i % 2 ^ w) ≡ plus_below k m i
+-- The code's way to add it, in a width of at most w digits; o is the 1 that it shifts.
+module _ (k w m i o : ℕ) (h : i < k) (l : k ≤ w) (one : o ≡ 1) where
+  pub one_added : bit_or m (o * 2 ^ i % 2 ^ w) ≡ plus_below k m i
   unfolding plus
-  one_added = ap (bit_or m) (one_shifted w i (lt_of_lt_of_le h l)) ∙ sym (plus-below k m i h)
+  one_added = rw one (ap (bit_or m) (one_shifted w i (lt_of_lt_of_le h l)) ∙ sym (plus-below k m i h))
 
-  pub one_fits : m < 2 ^ k → bit_or m (1 * 2 ^ i % 2 ^ w) < 2 ^ k
+  pub one_fits : m < 2 ^ k → bit_or m (o * 2 ^ i % 2 ^ w) < 2 ^ k
   unfolding plus
-  one_fits f = rw (one_shifted w i (lt_of_lt_of_le h l)) (plus_lt k m i f h)
+  one_fits f = rw (one, one_shifted w i (lt_of_lt_of_le h l)) (plus_lt k m i f h)
 
--- The code's way to move all of a mask of k digits, in twice as many as 64, and to cut it twice.
-pub all_shifted : (k n m : ℕ) → n < k → k ≤ 64 → m < 2 ^ k → m * 2 ^ n % 2 ^ 128 % 2 ^ 64 % 2 ^ k ≡ shifted n m % 2 ^ k
+-- The code's way to move all of a mask of k digits, in twice as many as 64, and to cut it twice; d is how far.
+pub all_shifted : (k n m d : ℕ) → n < k → k ≤ 64 → m < 2 ^ k → d ≡ n → m * 2 ^ d % 2 ^ 128 % 2 ^ 64 % 2 ^ k ≡ shifted n m % 2 ^ k
 unfolding shifted
-all_shifted k n m h l f =
+all_shifted k n m d h l f far =
     let e : 64 - k + k ≡ 64 = omega arith in
-    ap (λ (x : ℕ). x % 2 ^ 64 % 2 ^ k) (shifted_fits k 128 n m f (omega arith))
-    ∙ sym (ap (λ (w : ℕ). m * 2 ^ n % 2 ^ w % 2 ^ k) e) ∙ mod-mod-pow (m * 2 ^ n) (64 - k) k
+    rw far (ap (λ (x : ℕ). x % 2 ^ 64 % 2 ^ k) (shifted_fits k 128 n m f (omega arith))
+    ∙ sym (ap (λ (w : ℕ). m * 2 ^ n % 2 ^ w % 2 ^ k) e) ∙ mod-mod-pow (m * 2 ^ n) (64 - k) k)

@@ -1,6 +1,7 @@
 -- Past the width a mask has nothing; below it the shift brings the item's digit to the lowest place, which is `has`.
-use mathlib.Core.Path.{refl, sym}
-use Rattle.mask.specs.Mask.{has}
+use mathlib.Core.Path.{sym}
+use native.Mathlib.Omega.{arith}
+use Rattle.mask.proofs.Items.{is_held}
 use Rattle.mask.proofs.Width.{has_past}
 use Rattle.mask.proofs.Mask.contains.Goals as goal
 
@@ -11,5 +12,4 @@ returns-then-WIDTH-i g c =
     sym (has_past g.Self.Mask.WIDTH (g.Self.Mask.bits c.args.self) c.args.i fits (rw c.WIDTH.ensures at c.if-WIDTH-i.true))
 
 pub returns : goal.returns
-unfolding has
-returns g c = rw c.widen-wide.ensures.value refl
+returns g c = is_held _ _ _ _ c.widen-wide.ensures.value (grind arith)

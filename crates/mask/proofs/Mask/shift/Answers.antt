@@ -2,6 +2,7 @@
 use Prim.Native.Nat.{◌%◌, ◌^◌}
 use mathlib.Core.Path.{ap, ◌∙◌}
 use native.Mathlib.Nat.{mod-eq_of_lt}
+use native.Mathlib.Omega.{arith}
 use lib.Pow.{pow_pos}
 use Rattle.mask.specs.Sets.{shifted}
 use Rattle.mask.proofs.Shifted.{shifted_past, all_shifted}
@@ -14,5 +15,5 @@ returns-then-WIDTH-n g c =
 pub returns : goal.returns
 returns g c =
     let below = rw c.WIDTH.ensures at c.if-WIDTH-n.false in
-    c.narrow-2.ensures ∙ all_shifted g.Self.Mask.WIDTH c.args.n c.widen.result below g.met.Self.Mask.narrow_enough c.widen.ensures.fits
+    c.narrow-2.ensures ∙ all_shifted g.Self.Mask.WIDTH c.args.n c.widen.result _ below g.met.Self.Mask.narrow_enough c.widen.ensures.fits (grind arith)
     ∙ ap (λ m. shifted c.args.n m % 2 ^ g.Self.Mask.WIDTH) c.widen.ensures.value
