@@ -7,6 +7,9 @@ use native.Mathlib.Omega.{arith}
 use lib.Dec.{eqb}
 use lib.ListN.{length, get_or}
 use borrow.Author.Tests.{eq-eqb, ne_eqb}
+use Rattle.std.specs.Prelude.{Result}
+use Rattle.std.specs.Result.{result_from_control_flow}
+use Rattle.std.proofs.Common.{Continue}
 use Rattle.lists.specs.Numbers.{lowest}
 use Rattle.planrow.specs.Row.{identifiers_in}
 use Rattle.planrow.specs.Lookup.{plan_for}
@@ -17,7 +20,8 @@ use Rattle.machine.specs.State.{Cells, words_from, placed, machine_from}
 use Rattle.machine.proofs.Templates.{plan_few}
 use Rattle.population.specs.Arrays.{cells}
 use Rattle.population.specs.Lent.{counts, Tried}
-use Rattle.population.specs.Refusals.{AmongFirst}
+use Rattle.population.specs.declared.Refusal.{Refusal}
+use Rattle.population.specs.Refusals.{AmongFirst, Found}
 use Rattle.population.proofs.Fits.{formed_plan, formed_live, formed_identifiers}
 use Rattle.population.proofs.Lent.{tried_same, placed_at, found_none, found_some}
 
@@ -94,3 +98,13 @@ module _ (row : List ℕ) (next live : ℕ) (xs ts ls gs : List ℕ) (from to : 
             pub sent_held : r ≡ false → Tried (plan_for row) (counts next live) (cells xs ts ls gs) (send from to) Held (counts next live) (cells xs ts ls gs)
             unfolding settled if_done
             sent_held q = tried_same (plan_for row) (counts next live) c (send from to) Held (λ well. sym (settled_send well ∙ rw q refl))
+
+-- As `find` answered of both, each answer handed on by `?`.
+pub sent_found : (row : List ℕ) (next live : ℕ) (xs ts ls gs : List ℕ) (from to : ℕ) → length xs ≡ 128 → (p q : Result ℕ Refusal)
+    → Found xs live from p → Found xs live to q → (u v : _) → p ≡ result_from_control_flow u → q ≡ result_from_control_flow v
+    → (a b : ℕ) → u ≡ Continue a → v ≡ Continue b → from ≡ to
+    → Tried (plan_for row) (counts next live) (cells xs ts ls gs) (send from to) (Refused 26) (counts next live) (cells xs ts ls gs)
+sent_found row next live xs ts ls gs from to sized p q f g u v ep eq a b eu ev e =
+    let at_a = rw (ep, eu) at f in
+    let at_b = rw (eq, ev) at g in
+    sent_itself row next live xs ts ls gs from to sized a at_a.0 at_a.1 b at_b.0 at_b.1 e

@@ -100,17 +100,18 @@ module _ (row : List ℕ) (next live : ℕ) (xs ts ls gs : List ℕ) (present : 
         let is = formed_identifiers row next live c well in
         let b = not_refused w t.risk allowed i (sym z ∙ eq) in omega (arith, few, is, ew, b)
 
-    pub move_done : a ≡ Done → (label : ℕ) (ls' : List ℕ) → (i < 32 → label ≡ label_with present (get_or ls k 0) i) → length ls ≡ 128 → ls' ≡ set ls k label
+    -- The label is stored at place j.
+    pub move_done : a ≡ Done → (label : ℕ) (ls' : List ℕ) (j : ℕ) → (i < 32 → label ≡ label_with present (get_or ls k 0) i) → length ls ≡ 128 → ls' ≡ set ls j label → j ≡ k
         → Tried (plan_for row) (counts next live) (cells xs ts ls gs) (moves present s i) Done (counts next live) (cells xs ts ls' gs)
     unfolding moved machine_from unless_done
-    move_done z label ls' el room e = record {
+    move_done z label ls' j el room e at = record {
       means = λ well.
           let few = formed_live (plan_for row) next live c well in
           let serial = found_serial M live c s k (found well) (omega arith) in
           sym (moved_by well ∙ settled_done _ _ _ z
           ∙ ap (λ (ps : List Process). record { answer = Done; machine = record { plan = plan_for row; next = next; live = ps } })
           (ap₂ (λ (s label : ℕ). relabel s label (processes_of M live c)) (sym serial) (sym (el (width well z)))
-          ∙ relabelled_places (plan_for row) next live xs ts ls gs well k (omega arith) label ls' (omega (arith, room, few)) e));
+          ∙ relabelled_places (plan_for row) next live xs ts ls gs well k (omega arith) label ls' (omega (arith, room, few)) (e ∙ ap (λ (j : ℕ). set ls j label) at)));
       same = Prim.tt;
       others = unless_step_lem (moves present s i) _ (record { counts_stay = refl; serials_stay = refl; templates_stay = refl; tags_stay = refl });
     }

@@ -49,7 +49,7 @@ module _ (n m : ℕ) where
       go false true c = refl
       go false false c = refl
 
-  counted : (ltb n 1 || ltb 64 n || ltb 32 m) ≡ false → Counted n m
+  pub counted : (ltb n 1 || ltb 64 n || ltb 32 m) ≡ false → Counted n m
   counted e =
       let q : (ltb 0 n && (leb n 64 && leb m 32)) ≡ true = counts_asked ∙ ap not e in
       record {

@@ -19,7 +19,7 @@ fn is_mask(mask: u32, m: u32) -> bool
 
 // Whether a template's words stand for one that fits n templates and m identifiers. A successor that the form lacks need only be
 // a byte. Joined, the masks are compared once.
-#[tactic(auto, using(crate::proofs::Fitting::template_gathered))]
+#[tactic(auto, using(planrow::proofs::Reading::tested, crate::proofs::Fitting::template_gathered))]
 fn template_fits(words: &[u32; WIDTH], n: u32, m: u32) -> bool
     ensures { result ≡ (is_template (word words.now) && template_fits n m (template_of (word words.now))) }
 {

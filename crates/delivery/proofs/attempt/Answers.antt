@@ -2,7 +2,7 @@
 use native.Mathlib.Omega.{arith}
 use Rattle.std.proofs.lemmas.Result.{err_from_is_err_and}
 use Rattle.population.proofs.Lent.{of_live}
-use Rattle.delivery.proofs.Sends.{sent_from_none, sent_to_none, sent_itself, sent_short, sent_delivered, sent_held}
+use Rattle.delivery.proofs.Sends.{sent_from_none, sent_to_none, sent_found, sent_short, sent_delivered, sent_held}
 use Rattle.delivery.proofs.Passed.{passed_rows}
 use Rattle.delivery.proofs.attempt.Goals as goal
 
@@ -15,8 +15,7 @@ returns-in_err-b c = λ templates. of_live _ _ (λ next. let p = err_from_is_err
     rw (p.1, p.2, c.in_err-b.ensures.1) (sent_to_none _ _ _ _ _ _ _ _ _ c.told-serials _ c.in_ok-a.ensures.0 c.in_ok-a.ensures.1 _ c.in_err-b.ensures.0 (omega arith)))
 
 pub returns-then-from-to : goal.returns-then-from-to
-returns-then-from-to c = λ templates. of_live _ _ (λ next.
-    sent_itself _ _ _ _ _ _ _ _ _ c.told-serials _ c.in_ok-a.ensures.0 c.in_ok-a.ensures.1 _ c.in_ok-b.ensures.0 c.in_ok-b.ensures.1 c.if-from-to.true)
+returns-then-from-to c = λ templates. of_live _ _ (λ next. search sent_found)
 
 pub bounds-labels-a : goal.bounds-labels-a
 bounds-labels-a c = let k = c.in_ok-a.ensures in omega (arith, k.1, k.2, c.told-labels)

@@ -20,4 +20,4 @@ returns-in_err-permit c = λ tags. of_live _ _ (λ next. let p = err_from_is_err
 
 pub returns : goal.returns
 returns c = λ tags. of_live _ _ (λ next. move_done _ _ _ _ _ _ _ _ _ _ c.told-serials _ c.in_ok-k.ensures.0 c.in_ok-k.ensures.1 _ c.identifier_count-m.ensures _ c.template_at-t.ensures
-    _ c.movable_of.ensures _ c.in_ok-permit.ensures refl _ _ c.label_with.ensures c.told-labels refl)
+    _ c.movable_of.ensures _ c.in_ok-permit.ensures refl _ _ _ c.label_with.ensures c.told-labels refl (omega (arith, c.in_ok-k.ensures.1, c.in_ok-k.ensures.2)))
