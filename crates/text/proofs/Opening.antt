@@ -13,8 +13,8 @@ use Rattle.lists.proofs.Tests.{told}
 use Rattle.scan.specs.Bytes.{bytes, before, starts_with}
 use Rattle.scan.proofs.Parts.{rest_of, drop-take}
 use Rattle.scan.proofs.Steps.{starts_long}
-use Rattle.field.specs.Fields.{Field, is, bad, and_then}
-use Rattle.field.specs.Answers.{field_of}
+use Rattle.field.specs.Fields.{Field, is, bad, and_then, number}
+use Rattle.field.specs.Answers.{field_of, ranged_of}
 use Rattle.field.specs.declared.Refusal.{Refusal as Reason}
 use Rattle.field.specs.declared.Refusal.TheVariants.{TooLong, Layout}
 use Rattle.text.specs.Reading.{longest, Complete, Refused, Cursor, on, stopped, Step, after_key, settle, line, closed}
@@ -165,3 +165,26 @@ handed_on view s next (Err w) e h q = rw q h
 pub read_on : {A B : Type 0} (view : A → B) (s : Step B) (next : Cursor) (v : A) → s ≡ record { value = view v; next = next } → Gives view s next (Ok v)
 unfolding Gives
 read_on view s next v e = e
+
+-- A line's number, or None out of range, which the caller refuses with any number on the line where reading stood.
+unfoldable pub Ranged : ℕ → ℕ → Cursor → Step ℕ → Result (Option ℕ) RefusedLine → Type 0
+Ranged refusal k next s (Ok (Some v)) = s ≡ record { value = v; next = next }
+Ranged refusal k next s (Ok None) = s.next ≡ stopped refusal k
+Ranged refusal k next s (Err e) = s.next ≡ stopped_at e
+
+settled_ranged : (refusal k : ℕ) (rest : List ℕ) (next : Cursor) (x : Result (Option ℕ) Reason) (r : Result (Option ℕ) RefusedLine)
+    → Settled x rest k next r → Ranged refusal k next (settled 0 rest k (ranged_of refusal x)) r
+unfolding Settled settled Ranged
+settled_ranged refusal k rest next (Ok (Some v)) r q = rw (q.0, q.1) refl
+settled_ranged refusal k rest next (Ok None) r q = rw q.0 refl
+settled_ranged refusal k rest next (Err e) r q = rw q refl
+
+pub ranged : (refusal low limit : ℕ) (key text : List ℕ) (k : ℕ) (next : Cursor) (r : Result (Option ℕ) RefusedLine) (Gave : List ℕ → Result (Option ℕ) Reason → Type 0)
+    → Answered Gave (opened key (on text k)) next r → ((s : List ℕ) (x : Result (Option ℕ) Reason) → Gave s x → ranged_of refusal x ≡ number refusal low limit s)
+    → Ranged refusal k next (keyed 0 key (number refusal low limit) (on text k)) r
+unfolding keyed opened after Answered Ranged
+ranged refusal low limit key text k next r Gave a h = go (begins key text) refl
+  where
+    go : (b : Bool) → begins key text ≡ b → Ranged refusal k next (keyed 0 key (number refusal low limit) (on text k)) r
+    go true e = let q = rw (e, opened) at a in rw (e, keyed, opened, after, ← h _ q.0 q.1) (settled_ranged refusal k _ next q.0 r q.2)
+    go false e = let q = rw (e, opened) at a in rw (e, keyed, opened, after, q.1) q.2

@@ -36,6 +36,13 @@ impl<'a> Lines<'a> {
         })
     }
 
+    // The number of the line here, for a refusal of the caller's own.
+    pub fn line(&self) -> u32
+        ensures { result ≡ self.now.line }
+    {
+        self.line
+    }
+
     // The field of the line here, after its key and without byte 10, and where reading stands after it; none if the line is
     // missing, has no byte 10 or begins otherwise.
     fn open(&self, key: &[u8]) -> Option<(&'a [u8], Lines<'a>)>
