@@ -1,7 +1,7 @@
 -- The whole step: the parts are the machine's.
 use Prim.Native.Nat.{ℕ, ◌+◌, ◌-◌, ◌≤◌, ◌<◌}
 use mathlib.Core.Path.{◌≡◌, refl, sym, ap, ap₂, ◌∙◌}
-use mathlib.Core.Bool.{Bool, true, not, ◌&&◌}
+use mathlib.Core.Bool.{Bool, true, false, not, ◌&&◌}
 use mathlib.Core.List.{List, ◌++◌, map}
 use mathlib.Core.Option.{some}
 use native.Mathlib.Numerals.{add-one}
@@ -22,7 +22,9 @@ use Rattle.machine.specs.State.{Cells, placed, processes_of, machine_from, unles
 use Rattle.machine.proofs.Outcomes.{settled_refused, settled_done}
 use Rattle.machine.proofs.Places.{remove_at}
 use Rattle.machine.proofs.Templates.{successors_fit, children_fit, plan_few}
-use Rattle.population.specs.Refusals.{AmongFirst}
+use Rattle.std.specs.Prelude.{Result, Ok, Err, is_ok}
+use Rattle.population.specs.declared.Refusal.{Refusal}
+use Rattle.population.specs.Refusals.{AmongFirst, Found}
 use Rattle.population.specs.declared.Counts.{Counts}
 use Rattle.population.specs.Arrays.{cells}
 use Rattle.population.specs.Lent.{counts, outcome_from, unless_step, Tried}
@@ -172,3 +174,20 @@ module _ (row : List ℕ) (next live : ℕ) (xs ts ls gs : List ℕ) (serial bra
     same = w.same;
     others = Prim.tt;
   }
+
+-- By what `find` answered, however it is handed on.
+module _ (row : List ℕ) (n : Counts) (xs ts ls gs : List ℕ) (serial branch : ℕ) (sized : length xs ≡ 128) (p : Result ℕ Refusal) (found : Found xs n.live serial p) where
+  pub step_none : is_ok p ≡ false → (a : Answer) → a ≡ Refused 21 → Tried (plan_for row) n (cells xs ts ls gs) (step serial branch) a n (cells xs ts ls gs)
+  step_none = pick p found
+    where
+      pick : (p : Result ℕ Refusal) → Found xs n.live serial p → is_ok p ≡ false → (a : Answer) → a ≡ Refused 21
+          → Tried (plan_for row) n (cells xs ts ls gs) (step serial branch) a n (cells xs ts ls gs)
+      pick (Ok k) f h a e = absurd (cc)
+      pick (Err refusal) f h a e = rw e (step_gone row n.next n.live xs ts ls gs serial branch sized n.live f.0 (omega arith))
+
+  pub step_found : (k : ℕ) → p ≡ Ok k → (a : Answer) (n' : Counts) (d : Cells) → SteppedAt (plan_for row) n (cells xs ts ls gs) k branch a n' d
+      → Tried (plan_for row) n (cells xs ts ls gs) (step serial branch) a n' d
+  step_found k e a n' d w = let f = rw e at found in step_live row n.next n.live xs ts ls gs serial branch sized k f.0 a n' d f.1 w
+
+pub step_place : (xs : List ℕ) (live serial : ℕ) (p : Result ℕ Refusal) → Found xs live serial p → (k : ℕ) → p ≡ Ok k → (k < live) × (live ≤ 128)
+step_place xs live serial p found k e = let f = rw e at found in (f.1, f.2)
