@@ -134,11 +134,11 @@ module _ (row : List ℕ) (next live : ℕ) (c : Cells) (k branch : ℕ) (h : k 
       same = untouched (plan_for row) (counts next live) c (Refused n);
     }
 
-    pub place_done : (d : Cells) (count : ℕ) → a ≡ Done → count ≡ length born → (w ≤ 32 → Room w next k (live - 1) (length born))
+    pub place_done : (d : Cells) (more count : ℕ) → a ≡ Done → more ≡ length born → count ≡ length born → (w ≤ 32 → Room w next k (live - 1) (length born))
         → (Room w next k (live - 1) (length born) → Advanced w next k (live - 1) c born d)
-        → SteppedAt (plan_for row) (counts next live) c k branch Done (counts (next + count) (live - 1 + count)) d
+        → SteppedAt (plan_for row) (counts next live) c k branch Done (counts (next + more) (live - 1 + count)) d
     unfolding unless_done
-    place_done d count z ec room v = rw ec (record {
+    place_done d more count z em ec room v = rw (em, ec) (record {
       means = λ well. rw (heirs-are well)
           (step_done (plan_for row) next live c k branch well h a (answered well) d z
           (rw (sym (heirs-are well), sym (M-is well)) (v (room (few well)))));

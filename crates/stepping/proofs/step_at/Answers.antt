@@ -20,5 +20,5 @@ overflow_add-counts-2 c = let l = places_left _ _ _ _ _ _ _ _ c.in_ok-admit.ensu
 pub returns : goal.returns
 returns c =
     place_done _ _ _ _ _ _ c.requires.0 _ c.identifier_count-m.ensures _ c.template_at-t.ensures _ c.children_of-heirs.ensures
-    _ (mapped _ _ _ _ (λ y child q. search rules) c.map-children.ensures) _ c.in_ok-admit.ensures _ _ refl c.count-born.ensures
+    _ (mapped _ _ _ _ (λ y child q. search rules) c.map-children.ensures) _ c.in_ok-admit.ensures _ _ _ refl (omega (arith, c.count-born.ensures)) c.count-born.ensures
     (room_left _ _ _ _ _ _ _ _ c.in_ok-admit.ensures c.requires.0 c.requires.1) c.advance.ensures
