@@ -61,7 +61,7 @@ module _ (plan : Plan) (barred via : ℕ) (to : Targets) (x : ℕ) (v : Bool) (a
   unfolding both
   no_way e place = ap (λ (b : Bool). b && has place (reach plan (in_mask barred) x)) (sym asked ∙ not-true v e)
 
-  extended_none : not v ≡ true → to ≡ extended plan barred via to x
+  pub extended_none : not v ≡ true → to ≡ extended plan barred via to x
   unfolding extended
   extended_none e i = record {
     source = not_widened to.source x (is_way plan barred via to.source.place x) (no_way e to.source.place) i;

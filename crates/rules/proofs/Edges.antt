@@ -18,7 +18,7 @@ use Rattle.rules.proofs.Walk.{Decided, test_accepted, test_broken, test_decided,
 
 -- ---- the rows' numbers
 
--- One of five, as is_edge_rule asks the rows.
+-- One of five: a number is a row's.
 pub some-row : (a b c d e : Bool) → ((((a || b) || c) || d) || e) ≡ not (not a && (not b && (not c && (not d && (not e && true)))))
 some-row true b c d e = refl
 some-row false true c d e = refl

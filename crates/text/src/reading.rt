@@ -96,7 +96,7 @@ impl<'a> Lines<'a> {
         }
         Err(Refused {
             refusal: Refusal::Layout,
-            line: self.line,
+            line: self.line(),
         })
     }
 }

@@ -1,4 +1,5 @@
 -- What is left decides.
+use mathlib.Core.Path.{sym}
 use native.Mathlib.Omega.{arith}
 use Rattle.text.proofs.Opening.{closed_whole, closed_extra}
 use Rattle.text.proofs.Lines.finish.Goals as goal
@@ -7,4 +8,4 @@ pub returns-then-is_empty : goal.returns-then-is_empty
 returns-then-is_empty c = closed_whole _ _ (grind arith)
 
 pub returns : goal.returns
-returns c = closed_extra _ _ (grind arith)
+returns c = rw (sym c.line.ensures) (closed_extra _ _ (grind arith))
